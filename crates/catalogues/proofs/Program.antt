@@ -17,13 +17,13 @@ use Rattle.catalogues.specs.Program.{run_of, LineCalls, Space, Keeps, Lists, Tab
 use Rattle.catalogues.proofs.Listed.{parts_listed, kept-listed, kept_then}
 
 -- the first block tells the kind of the input
-same_kind : (b more : List ℕ) → (b ≡ [] → b ++ more ≡ []) → is_table (b ++ more) ≡ is_table b
+pub same_kind : (b more : List ℕ) → (b ≡ [] → b ++ more ≡ []) → is_table (b ++ more) ≡ is_table b
 unfolding is_table
 same_kind [] more h = ap is_table (h refl)
 same_kind (c ∷ b) more h = refl
 
 -- nothing begins no table
-table_kind : (b more : List ℕ) → is_table b ≡ true → is_table (b ++ more) ≡ true
+pub table_kind : (b more : List ℕ) → is_table b ≡ true → is_table (b ++ more) ≡ true
 unfolding is_table
 table_kind [] more t = cc
 table_kind (c ∷ b) more t = t
@@ -41,7 +41,7 @@ lines_converted input written c =
     ∙ ap from_lines (sym c.reads))
 
 -- what is kept of a prefix, once it fills the space
-kept_full : (a b : List ℕ) → 400321 ≤ length (kept_table a) → kept_table (a ++ b) ≡ kept_table a
+pub kept_full : (a b : List ℕ) → 400321 ≤ length (kept_table a) → kept_table (a ++ b) ≡ kept_table a
 unfolding kept_table
 kept_full a b h = take-append-le 400321 a b (omega (arith, length-take 400321 a))
 
@@ -50,7 +50,7 @@ nothing [] e = refl
 nothing (c ∷ l) e = absurd (omega arith)
 
 -- a block of which nothing is kept, in a space that has room for more, is empty
-nothing-more :
+pub nothing-more :
     (given given' block : List ℕ) (at : ℕ) → at < 400321 → 400321 ≤ length given →
     take at given' ≡ kept_table (take at given ++ block) → block ≡ []
 unfolding kept_table

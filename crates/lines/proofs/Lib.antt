@@ -11,3 +11,4 @@ pub mod Kept
 pub mod Texts
 pub mod Programs
 pub mod Turns
+pub mod Streams

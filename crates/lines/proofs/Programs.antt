@@ -16,12 +16,12 @@ use Rattle.lines.proofs.Kept.{kept-twice, commands_kept}
 use Rattle.lines.proofs.Writing.{nothing_put, then}
 
 module _ {S : Type 0} (p : Program S) where
-  runs_append : (r : Run S) (a b : List ℕ) → runs p r (a ++ b) ≡ runs p (runs p r a) b
+  pub runs_append : (r : Run S) (a b : List ℕ) → runs p r (a ++ b) ≡ runs p (runs p r a) b
   unfolding runs
   runs_append r [] b = refl
   runs_append r (c ∷ a) b = runs_append (stepped_by p r c) a b
 
-  text-append : (r : Run S) (a b : List ℕ) → text_for p r (a ++ b) ≡ text_for p r a ++ text_for p (runs p r a) b
+  pub text-append : (r : Run S) (a b : List ℕ) → text_for p r (a ++ b) ≡ text_for p r a ++ text_for p (runs p r a) b
   unfolding runs text_for
   text-append r [] b = refl
   text-append r (c ∷ a) b = rw (text-append (stepped_by p r c) a b) (sym (append_assoc (text_by p r c) _ _))

@@ -3,3 +3,4 @@ pub mod Replies
 pub mod Programs
 pub mod Turns
 pub mod Shape
+pub mod Streams

@@ -1,4 +1,1 @@
-pub mod Lending
 pub mod Telling
-pub mod Walk
-pub mod WalkSteps

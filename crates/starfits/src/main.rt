@@ -2,44 +2,64 @@
 
 #![tactic(auto)]
 
-ghost use Rattle.std.specs.Prelude.{◌≡◌, ◌≤◌, length};
-ghost use Rattle.catalogues.specs.Runs.{Fit};
+ghost use Rattle.std.specs.Prelude.{◌≡◌, ◌≤◌, ◌×◌, ◌++◌, false, ℕ, List, length, take, IfOk, OnOk, IfSome};
+ghost use Rattle.std.specs.Io.KnownBytes.{Appends, IsAtEnd};
+ghost use Rattle.lines.specs.Programs.{runs, text_for};
+ghost use Rattle.lines.specs.Streams.{Serves};
+ghost use Rattle.catalogues.specs.Listing.{listed, part_of, kept_table, converted};
+ghost use Rattle.catalogues.specs.Runs.{cataloguing, from_lines, run_held, Fit};
+ghost use Rattle.starfits.specs.Keeping.{Keeps};
 
 use catalogues::Collection;
-use libc::{STDIN_FILENO, STDOUT_FILENO};
+use std::io;
+use std::io::{Read, Write};
 
-fn main() {
-    let mut block = [0u8; 4096];
-    let got = libc::read(STDIN_FILENO, &mut block);
-    let n = io::count(got, &block);
-    if catalogues::begins_table(&block[..n]) {
-        list_table(&block[..n]);
-        return;
-    }
-    make_table(&block[..n]);
+fn main(rt: HostRuntime) -> io::Result<()> {
+    convert(&mut rt.stdin(), &mut rt.stdout())
 }
 
-fn list_table(first: &[u8]) {
+// What a reader's bytes are converted to, in whatever blocks they come, goes to a writer.
+fn convert<R: Read, W: Write>(reader: &mut R, writer: &mut W) -> io::Result<()>
+    ensures { OnOk result (IfSome (R.remaining reader.old)
+        (λ input. Appends (W.contents writer.old) (W.contents writer.new) (converted input))) }
+{
+    let mut block = [0u8; 4096];
+    let n = reader.read(&mut block)?;
+    if catalogues::begins_table(&block[..n]) {
+        return list_table(&block[..n], reader, writer);
+    }
+    make_table(&block[..n], reader, writer)
+}
+
+fn list_table<R: Read, W: Write>(first: &[u8], reader: &mut R, writer: &mut W) -> io::Result<()>
+    ensures { OnOk result (IfSome (R.remaining reader.old)
+        (λ rest. Appends (W.contents writer.old) (W.contents writer.new) (listed (first.now ++ rest)))) }
+{
     let mut given = table_space();
     let begun = catalogues::keep(&mut given, 0, first);
-    let length = keep_all(&mut given, begun);
-    list_all(&given[..length]);
+    let length = keep_all(&mut given, begun, reader)?;
+    list_all(&given[..length], writer)
 }
 
-fn list_all(given: &[u8]) {
+fn list_all<W: Write>(given: &[u8], writer: &mut W) -> io::Result<()>
+    ensures { OnOk result (Appends (W.contents writer.old) (W.contents writer.new) (listed given.now)) }
+{
     let mut part = 0;
     while part < 4 {
-        list_part(given, part);
+        list_part(given, part, writer)?;
         part += 1;
     }
+    Ok(())
 }
 
-fn list_part(given: &[u8], part: usize)
+fn list_part<W: Write>(given: &[u8], part: usize, writer: &mut W) -> io::Result<()>
     requires { part ≤ 3 }
+    ensures { OnOk result (Appends (W.contents writer.old) (W.contents writer.new) (part_of part given.now)) }
 {
     let mut out = table_space();
     let at = catalogues::list(given, part, &mut out);
-    io::write_all(STDOUT_FILENO, &out[..at]);
+    writer.write_all(&out[..at])?;
+    Ok(())
 }
 
 // Room for the longest table and more, or for a part of its lines. Of the three only the length is told, which lending them needs.
@@ -62,63 +82,75 @@ fn word_space() -> [u64; 32768]
 }
 
 // A proved loop has to end, and nothing says that the input does: the turns count down from a number that no run uses up.
-fn keep_all(given: &mut [u8], begun: usize) -> usize
+fn keep_all<R: Read>(given: &mut [u8], begun: usize, reader: &mut R) -> io::Result<usize>
     requires { (begun ≤ 400321) × (400321 ≤ length given.old) }
-    ensures { result ≤ 400321 }
+    ensures in_bounds { IfOk result (λ n. n ≤ 400321) }
+    ensures keeps { IfOk result (λ n. IfSome (R.remaining reader.old)
+        (λ rest. take n given.new ≡ kept_table (take begun given.old ++ rest))) }
 {
     let mut kept = begun;
     let mut turns = u64::MAX;
     while turns > 0 {
-        let next = keep_some(given, kept);
+        let next = keep_some(given, kept, reader)?;
         if next == kept {
-            return kept;
+            return Ok(kept);
         }
         kept = next;
         turns -= 1;
     }
-    kept
+    Err(io::Error::other("the input does not end"))
 }
 
 // Reads once; nothing more is kept once the input has ended or is too long for a table.
-fn keep_some(given: &mut [u8], kept: usize) -> usize
+fn keep_some<R: Read>(given: &mut [u8], kept: usize, reader: &mut R) -> io::Result<usize>
     requires { (kept ≤ 400321) × (400321 ≤ length given.old) }
-    ensures { result ≤ 400321 }
+    ensures in_bounds { IfOk result (λ n. n ≤ 400321) }
+    ensures keeps { IfOk result (λ n. Keeps given.old given.new kept n (R.remaining reader.old) (R.remaining reader.new)) }
+    ensures end { IfOk result (λ n. n ≡ kept → IfSome (R.remaining reader.old)
+        (λ rest. take n given.new ≡ kept_table (take kept given.old ++ rest))) }
 {
     let mut block = [0u8; 4096];
-    let got = libc::read(STDIN_FILENO, &mut block);
-    let n = io::count(got, &block);
-    catalogues::keep(given, kept, &block[..n])
+    let n = reader.read(&mut block)?;
+    Ok(catalogues::keep(given, kept, &block[..n]))
 }
 
-fn make_table(first: &[u8])
+fn make_table<R: Read, W: Write>(first: &[u8], reader: &mut R, writer: &mut W) -> io::Result<()>
     requires { length first.now ≤ 4096 }
+    ensures { OnOk result (IfSome (R.remaining reader.old)
+        (λ rest. Appends (W.contents writer.old) (W.contents writer.new) (from_lines (first.now ++ rest)))) }
 {
     let mut numbers = number_space();
     let mut words = word_space();
     let mut out = table_space();
     let start = catalogues::start();
-    let begun = collect(start, first, &mut numbers, &mut words, &mut out);
-    let all = collect_all(begun, &mut numbers, &mut words, &mut out);
+    let begun = collect(start, first, &mut numbers, &mut words, &mut out, writer)?;
+    let all = collect_all(begun, &mut numbers, &mut words, &mut out, reader, writer)?;
     let at = catalogues::finish(all, &mut numbers, &mut words, &mut out);
-    io::write_all(STDOUT_FILENO, &out[..at]);
+    writer.write_all(&out[..at])?;
+    Ok(())
 }
 
 // Collects a block, and writes its refusals.
-fn collect(
+fn collect<W: Write>(
     collection: Collection,
     block: &[u8],
     numbers: &mut [u32],
     words: &mut [u64],
     out: &mut [u8],
-) -> Collection
+    writer: &mut W,
+) -> io::Result<Collection>
     requires fit { Fit collection numbers.old words.old }
     requires block_len_bound { (length block.now ≤ 4096) × (400320 ≤ length out.old) }
-    ensures { Fit result numbers.new words.new }
+    ensures fit_2 { IfOk result (λ c. Fit c numbers.new words.new) }
+    ensures goes_on { IfOk result (λ c. run_held c numbers.new words.new
+        ≡ runs cataloguing (run_held collection numbers.old words.old) block.now) }
+    ensures written { OnOk result (Appends (W.contents writer.old) (W.contents writer.new)
+        (text_for cataloguing (run_held collection numbers.old words.old) block.now)) }
 {
     let collected = catalogues::collect(collection, block, numbers, words, out);
     let at = collected.at;
-    io::write_all(STDOUT_FILENO, &out[..at]);
-    collected.collection
+    writer.write_all(&out[..at])?;
+    Ok(collected.collection)
 }
 
 #[derive(Clone, Copy)]
@@ -127,53 +159,64 @@ struct Turn {
     more: bool,
 }
 
-fn collect_all(
+fn collect_all<R: Read, W: Write>(
     collection: Collection,
     numbers: &mut [u32],
     words: &mut [u64],
     out: &mut [u8],
-) -> Collection
+    reader: &mut R,
+    writer: &mut W,
+) -> io::Result<Collection>
     requires fit { Fit collection numbers.old words.old }
     requires in_bounds { 400320 ≤ length out.old }
-    ensures { Fit result numbers.new words.new }
+    ensures fit_2 { IfOk result (λ c. Fit c numbers.new words.new) }
+    ensures serves { IfOk result (λ c. Serves cataloguing
+        (run_held collection numbers.old words.old) (run_held c numbers.new words.new)
+        (R.remaining reader.old) (R.remaining reader.new) (W.contents writer.old) (W.contents writer.new)) }
+    ensures end { OnOk result (IsAtEnd (R.remaining reader.new)) }
 {
     let mut state = collection;
     let mut turns = u64::MAX;
     while turns > 0 {
-        let turn = collect_some(state, numbers, words, out);
+        let turn = collect_some(state, numbers, words, out, reader, writer)?;
         state = turn.collection;
         let more = turn.more;
         if !more {
-            return state;
+            return Ok(state);
         }
         turns -= 1;
     }
-    state
+    Err(io::Error::other("the input does not end"))
 }
 
 // Reads once, and collects what came.
-fn collect_some(
+fn collect_some<R: Read, W: Write>(
     collection: Collection,
     numbers: &mut [u32],
     words: &mut [u64],
     out: &mut [u8],
-) -> Turn
+    reader: &mut R,
+    writer: &mut W,
+) -> io::Result<Turn>
     requires fit { Fit collection numbers.old words.old }
     requires in_bounds { 400320 ≤ length out.old }
-    ensures { Fit result.collection numbers.new words.new }
+    ensures fit_2 { IfOk result (λ t. Fit t.collection numbers.new words.new) }
+    ensures serves { IfOk result (λ t. Serves cataloguing
+        (run_held collection numbers.old words.old) (run_held t.collection numbers.new words.new)
+        (R.remaining reader.old) (R.remaining reader.new) (W.contents writer.old) (W.contents writer.new)) }
+    ensures end { IfOk result (λ t. t.more ≡ false → IsAtEnd (R.remaining reader.new)) }
 {
     let mut block = [0u8; 4096];
-    let got = libc::read(STDIN_FILENO, &mut block);
-    if got <= 0 {
-        return Turn {
+    let n = reader.read(&mut block)?;
+    if n == 0 {
+        return Ok(Turn {
             collection,
             more: false,
-        };
+        });
     }
-    let n = io::count(got, &block);
-    let after = collect(collection, &block[..n], numbers, words, out);
-    Turn {
+    let after = collect(collection, &block[..n], numbers, words, out, writer)?;
+    Ok(Turn {
         collection: after,
         more: true,
-    }
+    })
 }

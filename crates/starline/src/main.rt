@@ -2,8 +2,16 @@
 
 #![tactic(auto)]
 
-use libc::{STDIN_FILENO, STDOUT_FILENO};
+ghost use Rattle.std.specs.Prelude.{◌≡◌, false, List, ℕ, map, IfOk, OnOk, IfSome};
+ghost use Rattle.std.specs.Io.KnownBytes.{Appends, IsAtEnd};
+ghost use Rattle.lines.specs.Grammar.{command_of, lines_of};
+ghost use Rattle.lines.specs.Programs.{put_out};
+ghost use Rattle.lines.specs.Streams.{Serves};
+ghost use Rattle.sessions.specs.Commands.{answering, new_file, run_in};
+
 use sessions::Session;
+use std::io;
+use std::io::{Read, Write};
 
 #[derive(Clone, Copy)]
 struct Turn {
@@ -11,47 +19,72 @@ struct Turn {
     more: bool,
 }
 
-fn main() {
-    let session = read_all(sessions::start());
+fn main(rt: HostRuntime) -> io::Result<()> {
+    answer_all(&mut rt.stdin(), &mut rt.stdout())
+}
+
+// The answers to a reader's lines, in whatever blocks its bytes come, go to a writer.
+fn answer_all<R: Read, W: Write>(reader: &mut R, writer: &mut W) -> io::Result<()>
+    ensures { OnOk result (IfSome (R.remaining reader.old)
+        (λ input. Appends (W.contents writer.old) (W.contents writer.new)
+        (put_out answering new_file (map command_of (lines_of input))))) }
+{
+    let session = read_all(sessions::start(), reader, writer)?;
     let mut out = [0u8; 64];
     let at = sessions::finish(session, &mut out);
-    io::write_all(STDOUT_FILENO, &out[..at]);
+    writer.write_all(&out[..at])?;
+    Ok(())
 }
 
 // A proved loop has to end, and nothing says that the input does: the turns count down from a number that no run uses up.
-fn read_all(session: Session) -> Session {
+fn read_all<R: Read, W: Write>(
+    session: Session,
+    reader: &mut R,
+    writer: &mut W,
+) -> io::Result<Session>
+    ensures serves { IfOk result (λ s. Serves answering (run_in session) (run_in s)
+        (R.remaining reader.old) (R.remaining reader.new) (W.contents writer.old) (W.contents writer.new)) }
+    ensures end { OnOk result (IsAtEnd (R.remaining reader.new)) }
+{
     let mut state = session;
     let mut turns = u64::MAX;
     while turns > 0 {
-        let turn = read_some(state);
+        let turn = read_some(state, reader, writer)?;
         state = turn.session;
         let more = turn.more;
         if !more {
-            return state;
+            return Ok(state);
         }
         turns -= 1;
     }
-    state
+    Err(io::Error::other("the input does not end"))
 }
 
 // Reads once, and answers what came.
-fn read_some(session: Session) -> Turn {
+fn read_some<R: Read, W: Write>(
+    session: Session,
+    reader: &mut R,
+    writer: &mut W,
+) -> io::Result<Turn>
+    ensures serves { IfOk result (λ t. Serves answering (run_in session) (run_in t.session)
+        (R.remaining reader.old) (R.remaining reader.new) (W.contents writer.old) (W.contents writer.new)) }
+    ensures end { IfOk result (λ t. t.more ≡ false → IsAtEnd (R.remaining reader.new)) }
+{
     let mut block = [0u8; 512];
     let mut out = [0u8; 19008];
-    let got = libc::read(STDIN_FILENO, &mut block);
-    if got <= 0 {
-        return Turn {
+    let n = reader.read(&mut block)?;
+    if n == 0 {
+        return Ok(Turn {
             session,
             more: false,
-        };
+        });
     }
-    let n = io::count(got, &block);
     let answered = sessions::answer_block(session, &block[..n], &mut out);
     let at = answered.at;
-    io::write_all(STDOUT_FILENO, &out[..at]);
+    writer.write_all(&out[..at])?;
     let after = answered.session;
-    Turn {
+    Ok(Turn {
         session: after,
         more: true,
-    }
+    })
 }

@@ -1,4 +1,3 @@
-pub mod Row
 pub mod Closing
 pub mod Answering
 pub mod Loaded

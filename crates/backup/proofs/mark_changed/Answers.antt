@@ -10,15 +10,16 @@ use Rattle.backup.proofs.mark_changed.Reads as reads
 use Rattle.backup.proofs.mark_changed.Goals as goal
 
 abbrev Else-refusal-ne0 : Type 0
-Else-refusal-ne0 = lts.Else1 tie.the-claims reads.Pre reads.Post
+Else-refusal-ne0 = lts.Else1 tie.the-claims reads.Pre reads.Post tie.handed_clauses
 
 pub returns-then-refusal-ne0 : goal.returns-then-refusal-ne0
-returns-then-refusal-ne0 c =
-    let s = c.before.before.before.before.before.before in
-    refused-marks s.args.parameters s.args.growth s.args.old.now s.args.new.now s.args.marks.now
-    c.refusal_of-refusal.result
-    c.refusal_of-refusal.ensures
-    c.if-refusal-ne0.true
+returns-then-refusal-ne0 c = record {
+  answer =
+      refused-marks c.args.parameters c.args.growth c.args.old.now c.args.new.now c.args.marks.now
+      c.refusal_of-refusal.result
+      c.refusal_of-refusal.ensures
+      c.if-refusal-ne0.true;
+}
 
 none-met : (c : Else-refusal-ne0) →
     mark_refusal c.args.parameters c.args.growth
@@ -40,8 +41,9 @@ mark_pages-requires c =
     }
 
 pub returns : goal.returns
-returns c =
-    let s = c.before.before.before.before.before.before.before.before.before.before in
-    ap (told 0) c.mark_pages.ensures
-    ∙ accepted-marks s.args.parameters s.args.growth s.args.old.now s.args.new.now s.args.marks.now
-    (none-met c.before.before.before.before.before)
+returns c = record {
+  answer =
+      ap (told 0) c.mark_pages.ensures
+      ∙ accepted-marks c.args.parameters c.args.growth c.args.old.now c.args.new.now c.args.marks.now
+      (sym c.refusal_of-refusal.ensures ∙ c.if-refusal-ne0.false);
+}

@@ -1,12 +1,16 @@
--- `starfits::collect_all` meets its contract.
-use native.Mathlib.Omega.{arith}
-use mathlib.Core.Path.{◌≡◌, refl, sym, ◌∙◌}
-use lib.ListN.{length}
-use Rattle.catalogues.specs.Runs.{Fit}
+use Rattle.std.specs.Prelude.{length, ◌≡◌}
+use Rattle.lines.specs.Streams.{Serves}
+use Rattle.catalogues.specs.Runs.{cataloguing, run_held, Fit}
 use Rattle.starfits.proofs.collect_all.Given as goal
 
 abbrev pub invariant-loop-turns : goal.invariant-loop-turns
-invariant-loop-turns l = Fit l.state l.numbers l.words × (length l.out ≡ length l.initial.out)
+invariant-loop-turns g l = record {
+  fit : Fit l.state l.numbers l.words;
+  room : length l.out ≡ length l.initial.out;
+  serves :
+      Serves cataloguing (run_held l.fn.collection l.fn.numbers l.fn.words) (run_held l.state l.numbers l.words)
+      (g.R.Read.remaining l.fn.reader) (g.R.Read.remaining l.reader) (g.W.Write.contents l.fn.writer) (g.W.Write.contents l.writer);
+}
 
 abbrev pub decreases-loop-turns : goal.decreases-loop-turns
-decreases-loop-turns l = l.turns
+decreases-loop-turns g l = l.turns

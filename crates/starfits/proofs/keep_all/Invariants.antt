@@ -1,12 +1,13 @@
--- `starfits::keep_all` meets its contract.
-use native.Mathlib.Omega.{arith}
-use Prim.Native.Nat.{◌≤◌}
-use mathlib.Core.Path.{◌≡◌, refl, ◌∙◌}
-use lib.ListN.{length}
+use Rattle.std.specs.Prelude.{length, ◌≡◌, ◌≤◌}
+use Rattle.starfits.specs.Keeping.{Keeps}
 use Rattle.starfits.proofs.keep_all.Given as goal
 
 abbrev pub invariant-loop-turns : goal.invariant-loop-turns
-invariant-loop-turns l = (l.kept ≤ 400321) × (length l.given ≡ length l.initial.given)
+invariant-loop-turns g l = record {
+  few : l.kept ≤ 400321;
+  room : length l.given ≡ length l.initial.given;
+  keeps : Keeps l.fn.given l.given l.begun l.kept (g.R.Read.remaining l.fn.reader) (g.R.Read.remaining l.reader);
+}
 
 abbrev pub decreases-loop-turns : goal.decreases-loop-turns
-decreases-loop-turns l = l.turns
+decreases-loop-turns g l = l.turns

@@ -15,7 +15,7 @@ use Rattle.survey.proofs.lowest_unsound.Goals as goal
 use Rattle.survey.proofs.lowest_unsound.Goals.{Start}
 
 abbrev In-loop-page : Type 0
-In-loop-page = lts.In-loop tie.the-claims reads.Pre reads.Post goal.the-invariant-loop-page goal.the-decreases-loop-page
+In-loop-page = lts.In-loop tie.the-claims reads.Pre reads.Post goal.the-invariant-loop-page goal.the-decreases-loop-page tie.handed_clauses
 
 pub nonzero_div-most : goal.nonzero_div-most
 nonzero_div-most c = (limits _ c.requires.homing.valid).places_least

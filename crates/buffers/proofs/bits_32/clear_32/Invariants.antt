@@ -1,10 +1,6 @@
-use mathlib.Core.Path.{ap, ◌∙◌}
-use mathlib.Core.List.{List}
-use Prim.Native.Nat.{ℕ, ◌-◌, ◌≤◌}
-use native.Mathlib.Omega.{arith}
-use lib.ListN.{length, length-replicate}
-use borrow.Author.Rules.{rules}
-use Rattle.buffers.proofs.Fills.{Filled, unfilled, filled, filled-to, filled-already}
+use Prim.Native.Nat.{◌-◌, ◌≤◌}
+use lib.ListN.{length}
+use Rattle.buffers.proofs.Fills.{Filled}
 use Rattle.buffers.proofs.bits_32.clear_32.Given as goal
 
 abbrev pub invariant-loop-at : goal.invariant-loop-at

@@ -1,8 +1,5 @@
-use mathlib.Core.Path.{◌≡◌}
-use Prim.Native.Nat.{◌-◌, ◌≤◌}
 use native.Mathlib.Omega.{arith}
-use lib.ListN.{length}
-use Rattle.buffers.proofs.Zeros.{Zeros, zeros-none, zeros-next, all-zeros}
+use Rattle.buffers.proofs.Zeros.{zeros-none, zeros-next, all-zeros}
 use Rattle.buffers.proofs.bits_32.united_32.Goals as goal
 
 pub loop-i-init : goal.loop-i-init

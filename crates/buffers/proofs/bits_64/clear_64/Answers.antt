@@ -1,10 +1,9 @@
 use mathlib.Core.Path.{ap, ◌∙◌}
 use mathlib.Core.List.{List}
-use Prim.Native.Nat.{ℕ, ◌-◌, ◌≤◌}
+use Prim.Native.Nat.{ℕ}
 use native.Mathlib.Omega.{arith}
 use lib.ListN.{length, length-replicate}
-use borrow.Author.Rules.{rules}
-use Rattle.buffers.proofs.Fills.{Filled, unfilled, filled, filled-to, filled-already}
+use Rattle.buffers.proofs.Fills.{unfilled, filled, filled-to, filled-already}
 use Rattle.buffers.proofs.bits_64.clear_64.Lts as lts
 use Rattle.buffers.proofs.bits_64.clear_64.Tie as tie
 use Rattle.buffers.proofs.bits_64.clear_64.Reads as reads

@@ -1,7 +1,6 @@
 use Prim.Native.Nat.{◌-◌, ◌≤◌}
-use native.Mathlib.Omega.{arith}
 use lib.ListN.{drop}
-use Rattle.buffers.proofs.Copies.{Copied, none, next, done}
+use Rattle.buffers.proofs.Copies.{Copied}
 use Rattle.buffers.proofs.bits_64.copy_64.Given as goal
 
 abbrev pub invariant-loop-i : goal.invariant-loop-i

@@ -1,7 +1,5 @@
-use Prim.Native.Nat.{◌-◌, ◌≤◌}
 use native.Mathlib.Omega.{arith}
-use lib.ListN.{drop}
-use Rattle.buffers.proofs.Copies.{Copied, none, next, done}
+use Rattle.buffers.proofs.Copies.{none, next, done}
 use Rattle.buffers.proofs.bits_8.copy_8.Goals as goal
 
 pub loop-i-init : goal.loop-i-init

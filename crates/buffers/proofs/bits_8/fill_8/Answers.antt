@@ -1,7 +1,5 @@
-use Prim.Native.Nat.{◌-◌, ◌≤◌}
 use native.Mathlib.Omega.{arith}
-use lib.ListN.{length}
-use Rattle.buffers.proofs.Fills.{Filled, unfilled, filled_next, filled}
+use Rattle.buffers.proofs.Fills.{unfilled, filled_next, filled}
 use Rattle.buffers.proofs.bits_8.fill_8.Goals as goal
 
 pub loop-i-init : goal.loop-i-init

@@ -1,7 +1,6 @@
 use Prim.Native.Nat.{◌-◌, ◌≤◌}
-use native.Mathlib.Omega.{arith}
 use lib.ListN.{length}
-use Rattle.buffers.proofs.Fills.{Filled, unfilled, filled_next, filled}
+use Rattle.buffers.proofs.Fills.{Filled}
 use Rattle.buffers.proofs.bits_8.fill_8.Given as goal
 
 abbrev pub invariant-loop-i : goal.invariant-loop-i

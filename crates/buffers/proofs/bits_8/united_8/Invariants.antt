@@ -1,8 +1,7 @@
 use mathlib.Core.Path.{◌≡◌}
 use Prim.Native.Nat.{◌-◌, ◌≤◌}
-use native.Mathlib.Omega.{arith}
 use lib.ListN.{length}
-use Rattle.buffers.proofs.Zeros.{Zeros, zeros-none, zeros-next, all-zeros}
+use Rattle.buffers.proofs.Zeros.{Zeros}
 use Rattle.buffers.proofs.bits_8.united_8.Given as goal
 
 abbrev pub invariant-loop-i : goal.invariant-loop-i

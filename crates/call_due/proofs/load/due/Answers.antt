@@ -1,5 +1,6 @@
 -- `call_due::due` meets its contract.
 use mathlib.Core.Path.{◌≡◌, sym, ap, ◌∙◌}
+use mathlib.Core.Bool.{Bool}
 use Prim.Native.Nat.{ℕ, ◌*◌, ◌+◌, ◌-◌, ◌/◌, ◌≤◌, max}
 use native.Mathlib.Omega.{arith}
 use lib.ListN.{length}
@@ -14,156 +15,149 @@ use Rattle.calls.specs.Shape.{Admitted}
 use Rattle.calls.specs.Calls.{unlent, due_of, file_fits_lem}
 use Rattle.call_due.specs.Used.{Reaches}
 use Rattle.calls.specs.Due.{stars, pages_in_use, exceeds, is_due}
+use Rattle.calls.specs.Shape.{admission_number}
+use Rattle.calls.specs.declared.answers.Admission.{Admission}
+use Rattle.calls.specs.declared.answers.Admission.TheVariants.{Passed}
 use Rattle.calls.proofs.Refusals.{turned-away, refusal_is, none_is, admitted, items-most}
 use Rattle.call_due.proofs.Tallies.{stars-most, blank-stars}
 use Rattle.calls.proofs.InUse.{in_use_most}
 use Rattle.call_due.proofs.Reached.{in_use_reached}
 use borrow.Author.Rules.{rules}
-use Rattle.call_due.proofs.load.due.Lts as lts
-use Rattle.call_due.proofs.load.due.Tie as tie
-use Rattle.call_due.proofs.load.due.Reads as reads
+use Rattle.hashing.specs.declared.Parameters.{Parameters}
+use Rattle.hashing.specs.declared.Growth.{Growth}
 use Rattle.call_due.proofs.load.due.Goals as goal
-use Rattle.call_due.proofs.load.due.Goals.{Start}
 
-abbrev In_default : Type 0
-In_default = lts.After-enum_told tie.the-claims reads.Pre reads.Post tie.handed_clauses
+-- what is known past the guard
+module _ (p : Parameters) (g : Growth) (f : File) (none : unlent p g (file_fits_lem p f) ≡ 0) where
+  lent-well : Admitted p g f
+  lent-well = admitted _ _ _ none
 
-abbrev After-struct_known-1 : Type 0
-After-struct_known-1 = lts.After-struct_known tie.the-claims reads.Pre reads.Post tie.handed_clauses
+  few : length f.numbers ≤ 32768
+  few = omega (arith, lent-well.sized.of_numbers, items-most _ lent-well.homing.valid)
 
-abbrev After-occupied-count : Type 0
-After-occupied-count = lts.After-occupied tie.the-claims reads.Pre reads.Post tie.handed_clauses
+  highest-most : highest p g + 1 ≤ p.pages
+  unfolding highest
+  highest-most =
+      let v = lent-well.homing in
+      let w = growth_within p g v.growth in
+      let least : 1 ≤ page_count p g = (spread _ _ (limits _ v.valid) w).pages_low in
+      omega (arith, w.pages_fit)
 
-abbrev After-in_use-pages : Type 0
-After-in_use-pages = lts.After-in_use tie.the-claims reads.Pre reads.Post tie.handed_clauses
+  -- the addressed items are some of all
+  split-most : (top : ℕ) → top ≡ highest p g → (top + 1) * p.places ≤ length f.numbers
+  split-most top e =
+      let within : (top + 1) * p.places ≤ p.pages * p.places = mul-le-mul_right _ (omega (arith, e, highest-most)) in
+      omega (arith, lent-well.sized.of_numbers)
 
-abbrev file_of : Start → File
-file_of s = lent s.args.separators.now s.args.numbers.now s.args.words.now s.args.owners.now
+  -- the pages in use
+  module _ (top end pages : ℕ) (e : top ≡ highest p g) (reached : Reaches f.numbers ((top + 1) * p.places) end) (is : pages ≡ max (top + 1) ((end + p.places - 1) / p.places)) where
+    pages-are : pages ≡ pages_in_use p g f.numbers
+    pages-are =
+        is
+        ∙ (ap (λ (n : ℕ). max (n + 1) ((end + p.places - 1) / p.places)) e
+        ∙ sym (in_use_reached p g f.numbers _ (limits _ lent-well.homing.valid).places_least lent-well.sized.of_numbers (rw e at reached)))
+
+    pages-most : pages ≤ 1024
+    pages-most = omega (arith, pages-are, in_use_most _ _ f.numbers highest-most, (limits _ lent-well.homing.valid).pages_most)
+
+none-of : (p : Parameters) (g : Growth) (f : File) {fits : Bool} {a : Admission} → admission_number a ≡ unlent p g fits → fits ≡ file_fits_lem p f → a ≡ Passed → unlent p g (file_fits_lem p f) ≡ 0
+none-of p g f e l t = none_is _ _ e l t
 
 pub returns-in-Refused : goal.returns-in-Refused
 unfolding due_of due_said file_fits_lem
-returns-in-Refused c = sym (ap (λ (x : After). x.answer) (turned-away _ _ _ _ _ _ _ (refusal_is _ _ c.guard.ensures c.file_fits-fits.ensures ?)))
-
--- what is known past the guard
-abbrev start : In_default → Start
-start c = c.before.before.before.before.before.before.before.before
-
-none : (c : In_default) → unlent (start c).args.parameters (start c).args.growth (file_fits_lem (start c).args.parameters (file_of (start c))) ≡ 0
-unfolding file_fits_lem
-none c = none_is _ _ c.guard.ensures c.file_fits-fits.ensures ?
-
-lent-well : (c : In_default) → Admitted (start c).args.parameters (start c).args.growth (file_of (start c))
-lent-well c = admitted _ _ _ (none c)
-
-few : (c : In_default) → length (start c).args.numbers.now ≤ 32768
-few c = omega (arith, (lent-well c).sized.of_numbers, items-most _ (lent-well c).homing.valid)
-
-highest-most : (c : In_default) → highest (start c).args.parameters (start c).args.growth + 1 ≤ (start c).args.parameters.pages
-unfolding highest
-highest-most c =
-    let v = (lent-well c).homing in
-    let w = growth_within (start c).args.parameters (start c).args.growth v.growth in
-    let least : 1 ≤ page_count (start c).args.parameters (start c).args.growth = (spread _ _ (limits _ v.valid) w).pages_low in
-    omega (arith, w.pages_fit)
-
--- the addressed items are some of all
-split-most : (c : After-struct_known-1) → (c.highest_address-highest.result + 1) * (start c.before.before).args.parameters.places ≤ length (start c.before.before).args.numbers.now
-split-most c =
-    let within : (c.highest_address-highest.result + 1) * (start c.before.before).args.parameters.places ≤ (start c.before.before).args.parameters.pages * (start c.before.before).args.parameters.places =
-    mul-le-mul_right _ (omega (arith, c.highest_address-highest.ensures, highest-most c.before.before)) in
-    omega (arith, (lent-well c.before.before).sized.of_numbers)
+returns-in-Refused c = sym (ap (λ (x : After). x.answer) (turned-away _ _ _ _ _ _ _ (refusal_is _ _ c.guard.ensures c.file_fits-fits.ensures c.in-Refused.is)))
 
 pub highest_address-highest-requires : goal.highest_address-highest-requires
-highest_address-highest-requires c = record {
-  parameters_value = (lent-well c.before).homing.valid;
-  growth_value = (lent-well c.before).homing.growth;
-}
+unfolding file_fits_lem
+highest_address-highest-requires c =
+    let f = lent c.args.separators.now c.args.numbers.now c.args.words.now c.args.owners.now in
+    let r = (lent-well c.args.parameters c.args.growth f (none-of _ _ f c.guard.ensures c.file_fits-fits.ensures c.in_default.is)).homing in
+    record { parameters_value = r.valid; growth_value = r.growth }
 
 pub overflow_mul-split : goal.overflow_mul-split
-overflow_mul-split c = omega (arith, split-most c.before, few c.before.before.before)
+unfolding file_fits_lem
+overflow_mul-split c =
+    let f = lent c.args.separators.now c.args.numbers.now c.args.words.now c.args.owners.now in
+    let none = none-of c.args.parameters c.args.growth f c.guard.ensures c.file_fits-fits.ensures c.in_default.is in
+    let l = limits _ (lent-well _ _ f none).homing.valid in
+    omega (arith, split-most _ _ f none _ c.highest_address-highest.ensures, few _ _ f none)
 
 pub end_of_use-end-requires : goal.end_of_use-end-requires
-end_of_use-end-requires c = (split-most c.before, few c.before.before.before)
-
--- the stars, and the pages in use that are compared with them
-abbrev told : After-occupied-count → In_default
-told c = c.before.before.before.before
-
-count-is : (c : After-occupied-count) → c.occupied-count.result ≡ stars (start (told c)).args.numbers.now
-count-is c = c.occupied-count.ensures ∙ sym (blank-stars _ _ c.end_of_use-end.ensures.blank)
-
-abbrev begun : After-in_use-pages → Start
-begun c = start (told c.before)
-
-reached : (c : After-in_use-pages) → Reaches (begun c).args.numbers.now ((highest (begun c).args.parameters (begun c).args.growth + 1) * (begun c).args.parameters.places) c.end_of_use-end.result
-reached c = rw c.highest_address-highest.ensures at c.end_of_use-end.ensures
-
-pages-are : (c : After-in_use-pages) → c.in_use-pages.result ≡ pages_in_use (begun c).args.parameters (begun c).args.growth (begun c).args.numbers.now
-pages-are c =
-    let p = (begun c).args.parameters in
-    c.in_use-pages.ensures
-    ∙ (ap (λ (n : ℕ). max (n + 1) ((c.end_of_use-end.result + p.places - 1) / p.places)) c.highest_address-highest.ensures
-    ∙ sym
-    (in_use_reached p (begun c).args.growth (begun c).args.numbers.now _
-    (limits _ (lent-well (told c.before)).homing.valid).places_least
-    (lent-well (told c.before)).sized.of_numbers
-    (reached c)))
-
-pages-most : (c : After-in_use-pages) → c.in_use-pages.result ≤ 1024
-pages-most c =
-    omega (
-      arith,
-      pages-are c,
-      in_use_most _ _ (begun c).args.numbers.now (highest-most (told c.before)),
-      (limits _ (lent-well (told c.before)).homing.valid).pages_most,
-    )
+unfolding file_fits_lem
+end_of_use-end-requires c =
+    let f = lent c.args.separators.now c.args.numbers.now c.args.words.now c.args.owners.now in
+    let none = none-of c.args.parameters c.args.growth f c.guard.ensures c.file_fits-fits.ensures c.in_default.is in
+    let l = limits _ (lent-well _ _ f none).homing.valid in
+    (split-most _ _ f none _ c.highest_address-highest.ensures, few _ _ f none)
 
 pub slice_bounds-occupied-end : goal.slice_bounds-occupied-end
 slice_bounds-occupied-end c = sym (length-take-le _ _ c.end_of_use-end.ensures.blank.within)
 
 pub occupied-count-requires : goal.occupied-count-requires
-occupied-count-requires c = rw (length-take-le _ _ c.end_of_use-end.ensures.blank.within) (omega (arith, few c.before.before.before.before, c.end_of_use-end.ensures.blank.within))
+unfolding file_fits_lem
+occupied-count-requires c =
+    let f = lent c.args.separators.now c.args.numbers.now c.args.words.now c.args.owners.now in
+    let none = none-of c.args.parameters c.args.growth f c.guard.ensures c.file_fits-fits.ensures c.in_default.is in
+    let l = limits _ (lent-well _ _ f none).homing.valid in
+    rw (length-take-le _ _ c.end_of_use-end.ensures.blank.within) (omega (arith, few _ _ f none, c.end_of_use-end.ensures.blank.within))
 
 pub in_use-pages-requires : goal.in_use-pages-requires
+unfolding file_fits_lem
 in_use-pages-requires c =
-    let l = limits _ (lent-well (told c.before)).homing.valid in (
+    let f = lent c.args.separators.now c.args.numbers.now c.args.words.now c.args.owners.now in
+    let none = none-of c.args.parameters c.args.growth f c.guard.ensures c.file_fits-fits.ensures c.in_default.is in
+    let l = limits _ (lent-well _ _ f none).homing.valid in
+    (
       l.places_least,
       l.places_most,
-      omega (arith, c.highest_address-highest.ensures, highest-most (told c.before), l.pages_most),
-      omega (arith, few (told c.before), c.end_of_use-end.ensures.blank.within),
+      omega (arith, c.highest_address-highest.ensures, highest-most _ _ f none, l.pages_most),
+      omega (arith, few _ _ f none, c.end_of_use-end.ensures.blank.within),
     )
 
 pub overflow_mul-room : goal.overflow_mul-room
+unfolding file_fits_lem
 overflow_mul-room c =
-    let l = limits _ (lent-well (told c.before.before.before)).homing.valid in
-    let m : (begun c.before.before).args.parameters.load * (begun c.before.before).args.parameters.places ≤ 99 * 32 = mul-le-mul l.load_most l.places_most in
+    let f = lent c.args.separators.now c.args.numbers.now c.args.words.now c.args.owners.now in
+    let none = none-of c.args.parameters c.args.growth f c.guard.ensures c.file_fits-fits.ensures c.in_default.is in
+    let l = limits _ (lent-well _ _ f none).homing.valid in
+    let m : c.args.parameters.load * c.args.parameters.places ≤ 99 * 32 = mul-le-mul l.load_most l.places_most in
     omega arith
 
 pub overflow_mul-room-2 : goal.overflow_mul-room-2
+unfolding file_fits_lem
 overflow_mul-room-2 c =
-    let l = limits _ (lent-well (told c.before.before.before)).homing.valid in
-    let m : (begun c.before.before).args.parameters.load * (begun c.before.before).args.parameters.places * c.in_use-pages.result ≤ 99 * 32 * 1024 = mul-le-mul (mul-le-mul l.load_most l.places_most) (pages-most c.before.before) in
+    let f = lent c.args.separators.now c.args.numbers.now c.args.words.now c.args.owners.now in
+    let none = none-of c.args.parameters c.args.growth f c.guard.ensures c.file_fits-fits.ensures c.in_default.is in
+    let l = limits _ (lent-well _ _ f none).homing.valid in
+    let most = pages-most _ _ f none _ _ _ c.highest_address-highest.ensures c.end_of_use-end.ensures c.in_use-pages.ensures in
+    let m : c.args.parameters.load * c.args.parameters.places * c.in_use-pages.result ≤ 99 * 32 * 1024 = mul-le-mul (mul-le-mul l.load_most l.places_most) most in
     omega arith
 
 pub overflow_mul-count : goal.overflow_mul-count
+unfolding file_fits_lem
 overflow_mul-count c =
-    omega (
-      arith,
-      few (told c.before.before.before),
-      stars-most (begun c.before.before).args.numbers.now,
-      count-is c.before.before.before,
-    )
+    let f = lent c.args.separators.now c.args.numbers.now c.args.words.now c.args.owners.now in
+    let none = none-of c.args.parameters c.args.growth f c.guard.ensures c.file_fits-fits.ensures c.in_default.is in
+    let l = limits _ (lent-well _ _ f none).homing.valid in
+    let count = c.occupied-count.ensures ∙ sym (blank-stars _ _ c.end_of_use-end.ensures.blank) in
+    omega (arith, few _ _ f none, stars-most c.args.numbers.now, count)
 
 pub returns-then-room-count : goal.returns-then-room-count
-unfolding due_of due_said is_due exceeds
+unfolding file_fits_lem due_of due_said is_due exceeds
 returns-then-room-count c =
-    let made = c.before.before.before in
-    rw (none (told made.before))
-    (rw (← count-is made.before, ← pages-are made, lt-ltb _ _ c.if-room-count.true))
+    let f = lent c.args.separators.now c.args.numbers.now c.args.words.now c.args.owners.now in
+    let none = none-of c.args.parameters c.args.growth f c.guard.ensures c.file_fits-fits.ensures c.in_default.is in
+    let l = limits _ (lent-well _ _ f none).homing.valid in
+    let count = c.occupied-count.ensures ∙ sym (blank-stars _ _ c.end_of_use-end.ensures.blank) in
+    let pages = pages-are _ _ f none _ _ _ c.highest_address-highest.ensures c.end_of_use-end.ensures c.in_use-pages.ensures in
+    rw none (rw (← count, ← pages, lt-ltb _ _ c.if-room-count.true))
 
 pub returns : goal.returns
-unfolding due_of due_said is_due exceeds
+unfolding file_fits_lem due_of due_said is_due exceeds
 returns c =
-    let made = c.before.before.before in
-    rw (none (told made.before))
-    (rw (← count-is made.before, ← pages-are made, le-ltb _ _ c.if-room-count.false))
+    let f = lent c.args.separators.now c.args.numbers.now c.args.words.now c.args.owners.now in
+    let none = none-of c.args.parameters c.args.growth f c.guard.ensures c.file_fits-fits.ensures c.in_default.is in
+    let l = limits _ (lent-well _ _ f none).homing.valid in
+    let count = c.occupied-count.ensures ∙ sym (blank-stars _ _ c.end_of_use-end.ensures.blank) in
+    let pages = pages-are _ _ f none _ _ _ c.highest_address-highest.ensures c.end_of_use-end.ensures c.in_use-pages.ensures in
+    rw none (rw (← count, ← pages, le-ltb _ _ c.if-room-count.false))

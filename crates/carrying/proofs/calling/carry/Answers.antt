@@ -45,7 +45,7 @@ unfolding carry_lengths file_fits_lem pool_fits_lem
 returns c =
     let states : carry_states c.args.parameters c.args.growth c.args.newparameters c.args.newgrowth ≡ true = passed _ _ c.states_valid.ensures (ap not c.if-not-states_valid.false) in
     let lengths : carry_lengths c.args.parameters (lent c.args.separators.now c.args.numbers.now c.args.words.now c.args.owners.now) c.args.newparameters (lent c.args.secondseparators.now c.args.secondnumbers.now c.args.secondwords.now c.args.secondowners.now) (pooled c.args.poolnumbers.now c.args.poolwords.now c.args.poolowners.now) ≡ true = rw (passed _ _ c.file_fits.ensures (ap not c.if-not-file_fits.false), passed _ _ c.all_fit.ensures (ap not c.if-not-all_fit.false)) in
-    let kept = c.carry_second-answer.auto.poolnumbers in
+    let kept = c.carry_second-answer.auto in
     carry_done c.args.parameters c.args.growth (lent c.args.separators.now c.args.numbers.now c.args.words.now c.args.owners.now) c.args.newparameters c.args.newgrowth (lent c.args.secondseparators.now c.args.secondnumbers.now c.args.secondwords.now c.args.secondowners.now) (pooled c.args.poolnumbers.now c.args.poolwords.now c.args.poolowners.now) states lengths _ _ _ refl
     (c.carry_second-answer.ensures (cleared (pooled c.args.poolnumbers.now c.args.poolwords.now c.args.poolowners.now)))
-    (cleared-is _ _ _ _ _ _ _ _ _ c.clear.ensures.pool_after c.clear.ensures.waiting_after c.clear.ensures.poolowners_after kept.0 kept.1.0 refl)
+    (cleared-is _ _ _ _ _ _ _ _ _ c.clear.ensures.pool_after c.clear.ensures.waiting_after c.clear.ensures.poolowners_after kept.poolnumbers kept.poolwords refl)

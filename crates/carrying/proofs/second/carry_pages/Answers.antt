@@ -20,46 +20,13 @@ first_multipliers-table-requires c =
 pub place_second-requires : goal.place_second-requires
 place_second-requires c =
     record {
-      ready = ((
-        c.requires.ready_2,
-        (
-          λ h. (
+      ready = c.requires.ready_2;
+      numbers_len_bound = λ h. (
             carried-few c.args.old c.args.new (lent c.args.separators.now c.args.numbers.now c.args.words.now c.args.owners.now) (lent c.args.secondseparators.now c.args.secondnumbers.now c.args.secondwords.now c.args.secondowners.now) _ c.lowest_unsound-bad.ensures c.requires.ready.homing.valid c.requires.ready.sized h,
             carried-numbers c.args.old c.args.new (lent c.args.separators.now c.args.numbers.now c.args.words.now c.args.owners.now) (lent c.args.secondseparators.now c.args.secondnumbers.now c.args.secondwords.now c.args.secondowners.now) _ c.lowest_unsound-bad.ensures c.requires.ready.homing.valid c.requires.ready.sized h,
-          ),
-          c.requires.1.1,
-        ),
-      )).0;
-      numbers_len_bound = ((
-        c.requires.ready_2,
-        (
-          λ h. (
-            carried-few c.args.old c.args.new (lent c.args.separators.now c.args.numbers.now c.args.words.now c.args.owners.now) (lent c.args.secondseparators.now c.args.secondnumbers.now c.args.secondwords.now c.args.secondowners.now) _ c.lowest_unsound-bad.ensures c.requires.ready.homing.valid c.requires.ready.sized h,
-            carried-numbers c.args.old c.args.new (lent c.args.separators.now c.args.numbers.now c.args.words.now c.args.owners.now) (lent c.args.secondseparators.now c.args.secondnumbers.now c.args.secondwords.now c.args.secondowners.now) _ c.lowest_unsound-bad.ensures c.requires.ready.homing.valid c.requires.ready.sized h,
-          ),
-          c.requires.1.1,
-        ),
-      )).1.0;
-      pool_len = ((
-        c.requires.ready_2,
-        (
-          λ h. (
-            carried-few c.args.old c.args.new (lent c.args.separators.now c.args.numbers.now c.args.words.now c.args.owners.now) (lent c.args.secondseparators.now c.args.secondnumbers.now c.args.secondwords.now c.args.secondowners.now) _ c.lowest_unsound-bad.ensures c.requires.ready.homing.valid c.requires.ready.sized h,
-            carried-numbers c.args.old c.args.new (lent c.args.separators.now c.args.numbers.now c.args.words.now c.args.owners.now) (lent c.args.secondseparators.now c.args.secondnumbers.now c.args.secondwords.now c.args.secondowners.now) _ c.lowest_unsound-bad.ensures c.requires.ready.homing.valid c.requires.ready.sized h,
-          ),
-          c.requires.1.1,
-        ),
-      )).1.1.0;
-      waiting_len = ((
-        c.requires.ready_2,
-        (
-          λ h. (
-            carried-few c.args.old c.args.new (lent c.args.separators.now c.args.numbers.now c.args.words.now c.args.owners.now) (lent c.args.secondseparators.now c.args.secondnumbers.now c.args.secondwords.now c.args.secondowners.now) _ c.lowest_unsound-bad.ensures c.requires.ready.homing.valid c.requires.ready.sized h,
-            carried-numbers c.args.old c.args.new (lent c.args.separators.now c.args.numbers.now c.args.words.now c.args.owners.now) (lent c.args.secondseparators.now c.args.secondnumbers.now c.args.secondwords.now c.args.secondowners.now) _ c.lowest_unsound-bad.ensures c.requires.ready.homing.valid c.requires.ready.sized h,
-          ),
-          c.requires.1.1,
-        ),
-      )).1.1.1;
+          );
+      pool_len = c.requires.pool_len;
+      waiting_len = c.requires.waiting_len;
     }
 
 pub returns-then-pool-numbers : goal.returns-then-pool-numbers

@@ -13,19 +13,19 @@ pub number_named-requires : goal.number_named-requires
 number_named-requires c = tt
 
 pub bounds-secondnumbers-i : goal.bounds-secondnumbers-i
-bounds-secondnumbers-i c = omega (arith, c.pre, c.loop-i.inv.1.0.kept)
+bounds-secondnumbers-i c = omega (arith, c.requires, c.loop-i.invariant.1.0.kept)
 
 pub word_named-requires : goal.word_named-requires
 word_named-requires c = tt
 
 pub bounds-secondwords-i : goal.bounds-secondwords-i
-bounds-secondwords-i c = omega (arith, c.pre, c.loop-i.inv.1.1.0.kept)
+bounds-secondwords-i c = omega (arith, c.requires, c.loop-i.invariant.1.1.0.kept)
 
 pub owner_named-requires : goal.owner_named-requires
 owner_named-requires c = tt
 
 pub bounds-secondowners-i : goal.bounds-secondowners-i
-bounds-secondowners-i c = omega (arith, c.pre, c.loop-i.inv.1.1.1.kept)
+bounds-secondowners-i c = omega (arith, c.requires, c.loop-i.invariant.1.1.1.kept)
 
 pub loop-i-smaller : goal.loop-i-smaller
 loop-i-smaller c = omega arith
@@ -36,10 +36,10 @@ loop-i-preserved c =
     let h = c.loop-i-test.true in (
       omega arith,
       (
-        named-next _ pool _ _ _ c.requires.secondnumbers_len c.loop-i.inv.1.0 _ h c.number_named.ensures,
+        named-next _ pool _ _ _ c.requires.secondnumbers_len c.loop-i.invariant.1.0 _ h c.number_named.ensures,
         (
-          named-next _ pool _ _ _ c.requires.secondwords_len c.loop-i.inv.1.1.0 _ h c.word_named.ensures,
-          named-next _ pool _ _ _ c.requires.secondowners_len c.loop-i.inv.1.1.1 _ h c.owner_named.ensures,
+          named-next _ pool _ _ _ c.requires.secondwords_len c.loop-i.invariant.1.1.0 _ h c.word_named.ensures,
+          named-next _ pool _ _ _ c.requires.secondowners_len c.loop-i.invariant.1.1.1 _ h c.owner_named.ensures,
         ),
       ),
     )

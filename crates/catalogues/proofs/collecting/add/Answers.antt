@@ -14,7 +14,7 @@ use Rattle.catalogues.proofs.collecting.add.Goals as goal
 -- a row that is added has its place
 room : (count : ℕ) (e : Effect) → (is_added e ≡ true → count < 32768) → (n w : ℕ) → e ≡ Added n w → count < 32768
 unfolding is_added
-room _ _ c.requires.count_bound_2 _ _ c.in-Added.isount e h n w is = h (rw is)
+room count e h n w is = h (rw is)
 
 pub bounds-numbers-count : goal.bounds-numbers-count
 bounds-numbers-count c = omega (arith, room _ _ c.requires.count_bound_2 _ _ c.in-Added.is, c.requires.count_bound.1.0)

@@ -32,12 +32,11 @@ pub loop-i-smaller : goal.loop-i-smaller
 loop-i-smaller c = omega arith
 
 pub loop-i-preserved : goal.loop-i-preserved
-loop-i-preserved c =
-    (
-      omega arith,
-      sought-next c.args.count c.args.numbers.now c.args.words.now c.requires.0 c.requires.1 c.args.number c.args.word c.loop-i.i
-          c.loop-i-test.true c.if-numbers-i.false c.loop-i.invariant.1,
-    )
+loop-i-preserved c = (
+  omega arith,
+  sought-next c.args.count c.args.numbers.now c.args.words.now c.requires.0 c.requires.1 c.args.number c.args.word c.loop-i.i
+      c.loop-i-test.true c.if-numbers-i.false c.loop-i.invariant.1,
+)
 
 pub returns : goal.returns
 returns c =

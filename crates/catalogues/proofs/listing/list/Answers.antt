@@ -11,11 +11,10 @@ use borrow.Author.Rules.{rules}
 use Rattle.catalogues.proofs.listing.list.Goals as goal
 
 pub returns-in_default : goal.returns-in_default
-returns-in_default c =
-    (
-      rw (← none-listed c.args.part c.args.given.now c.table_rows.ensures c.in_default.is) c.refuse.ensures.0,
-      omega (arith, c.refuse.ensures.1),
-    )
+returns-in_default c = (
+  rw (← none-listed c.args.part c.args.given.now c.table_rows.ensures c.in_default.is) c.refuse.ensures.0,
+  omega (arith, c.refuse.ensures.1),
+)
 
 pub rows_good-requires : goal.rows_good-requires
 rows_good-requires c = record {
@@ -24,12 +23,11 @@ rows_good-requires c = record {
 }
 
 pub returns-then-not-rows_good : goal.returns-then-not-rows_good
-returns-then-not-rows_good c =
-    (
-      rw (← row_wrong c.args.part c.args.given.now c.table_rows.ensures _ c.in-Rows.is
-          (sym c.rows_good.ensures ∙ c.if-not-rows_good.true)) c.refuse-then-not-rows_good.ensures.0,
-      omega (arith, c.refuse-then-not-rows_good.ensures.1),
-    )
+returns-then-not-rows_good c = (
+  rw (← row_wrong c.args.part c.args.given.now c.table_rows.ensures _ c.in-Rows.is
+      (sym c.rows_good.ensures ∙ c.if-not-rows_good.true)) c.refuse-then-not-rows_good.ensures.0,
+  omega (arith, c.refuse-then-not-rows_good.ensures.1),
+)
 
 pub overflow_mul-rows : goal.overflow_mul-rows
 overflow_mul-rows c = omega (arith, inside c.args.part c.args.given.now c.table_rows.ensures _ c.in-Rows.is)
@@ -41,12 +39,11 @@ pub pad_zero-requires : goal.pad_zero-requires
 pad_zero-requires c = (inside c.args.part c.args.given.now c.table_rows.ensures _ c.in-Rows.is).1
 
 pub returns-then-not-pad_zero : goal.returns-then-not-pad_zero
-returns-then-not-pad_zero c =
-    (
-      rw (← pad_wrong c.args.part c.args.given.now c.table_rows.ensures _ c.in-Rows.is (sym c.rows_good.ensures ∙ c.if-not-rows_good.false)
-          (sym c.pad_zero.ensures ∙ c.if-not-pad_zero.true)) c.refuse-then-not-pad_zero.ensures.0,
-      omega (arith, c.refuse-then-not-pad_zero.ensures.1),
-    )
+returns-then-not-pad_zero c = (
+  rw (← pad_wrong c.args.part c.args.given.now c.table_rows.ensures _ c.in-Rows.is (sym c.rows_good.ensures ∙ c.if-not-rows_good.false)
+      (sym c.pad_zero.ensures ∙ c.if-not-pad_zero.true)) c.refuse-then-not-pad_zero.ensures.0,
+  omega (arith, c.refuse-then-not-pad_zero.ensures.1),
+)
 
 -- part and rows are small
 pub overflow_mul-part : goal.overflow_mul-part

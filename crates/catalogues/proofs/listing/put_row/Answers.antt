@@ -14,11 +14,10 @@ put_line-requires c =
     }
 
 pub returns-in-Star : goal.returns-in-Star
-returns-in-Star c =
-    (
-      row_put c.args.given.now c.args.rows c.args.i c.requires.rows_value c.requires.i_lt_rows.0 c.row_at.ensures _ _ c.in-Star.is _ _ _ _ c.put_line.ensures.0,
-      c.put_line.ensures.1,
-    )
+returns-in-Star c = (
+  row_put c.args.given.now c.args.rows c.args.i c.requires.rows_value c.requires.i_lt_rows.0 c.row_at.ensures _ _ c.in-Star.is _ _ _ _ c.put_line.ensures.0,
+  c.put_line.ensures.1,
+)
 
 pub returns-in-Wrong : goal.returns-in-Wrong
 returns-in-Wrong c =

@@ -5,7 +5,6 @@ use Rattle.placement.specs.Hash.{lent}
 use Rattle.calls.proofs.Spots.{item-within}
 use Rattle.comparison.proofs.Differences.{Compared, number-differs, word-differs, owner_differs, place_same, separator_differs, separator_same, compared-none, compared-found, compared-place, compared-page, compared-all}
 use Rattle.comparison.proofs.search.compare.Goals as goal
-use Rattle.comparison.proofs.search.compare.Goals.{In-loop-place}
 
 pub pages-init : goal.pages-init
 pages-init c = (compared-none _ _ _ _, refl)
@@ -13,45 +12,41 @@ pages-init c = (compared-none _ _ _ _, refl)
 pub loop-place-init : goal.loop-place-init
 loop-place-init c = c.pages.invariant.0
 
--- the item is one of the first pages · places
-inside : (c : In-loop-place) → c.pages.page * c.args.places + c.loop-place.place < c.args.pages * c.args.places
-inside c = item-within _ _ _ _ c.pages-test.true c.loop-place-test.true
-
 pub overflow_mul-item : goal.overflow_mul-item
-overflow_mul-item c = omega (arith, inside c)
+overflow_mul-item c = omega (arith, item-within _ _ _ _ c.pages-test.true c.loop-place-test.true)
 
 pub overflow_add-item : goal.overflow_add-item
-overflow_add-item c = omega (arith, inside c)
+overflow_add-item c = omega (arith, item-within _ _ _ _ c.pages-test.true c.loop-place-test.true)
 
 pub offset_bounds-numbers-item : goal.offset_bounds-numbers-item
-offset_bounds-numbers-item c = omega (arith, inside c)
+offset_bounds-numbers-item c = omega (arith, item-within _ _ _ _ c.pages-test.true c.loop-place-test.true)
 
 pub bounds-numbers-item : goal.bounds-numbers-item
-bounds-numbers-item c = omega (arith, inside c.before.before)
+bounds-numbers-item c = omega (arith, item-within _ _ _ _ c.pages-test.true c.loop-place-test.true)
 
 pub offset_bounds-plannednumbers-item : goal.offset_bounds-plannednumbers-item
-offset_bounds-plannednumbers-item c = omega (arith, inside c.before.before)
+offset_bounds-plannednumbers-item c = omega (arith, item-within _ _ _ _ c.pages-test.true c.loop-place-test.true)
 
 pub bounds-plannednumbers-item : goal.bounds-plannednumbers-item
-bounds-plannednumbers-item c = omega (arith, inside c.before.before.before)
+bounds-plannednumbers-item c = omega (arith, item-within _ _ _ _ c.pages-test.true c.loop-place-test.true)
 
 pub offset_bounds-words-item : goal.offset_bounds-words-item
-offset_bounds-words-item c = omega (arith, inside c.before.before.before.before)
+offset_bounds-words-item c = omega (arith, item-within _ _ _ _ c.pages-test.true c.loop-place-test.true)
 
 pub bounds-words-item : goal.bounds-words-item
-bounds-words-item c = omega (arith, inside c.before.before.before.before.before)
+bounds-words-item c = omega (arith, item-within _ _ _ _ c.pages-test.true c.loop-place-test.true)
 
 pub offset_bounds-plannedwords-item : goal.offset_bounds-plannedwords-item
-offset_bounds-plannedwords-item c = omega (arith, inside c.before.before.before.before.before)
+offset_bounds-plannedwords-item c = omega (arith, item-within _ _ _ _ c.pages-test.true c.loop-place-test.true)
 
 pub bounds-plannedwords-item : goal.bounds-plannedwords-item
-bounds-plannedwords-item c = omega (arith, inside c.before.before.before.before.before.before)
+bounds-plannedwords-item c = omega (arith, item-within _ _ _ _ c.pages-test.true c.loop-place-test.true)
 
 pub bounds-owners-item : goal.bounds-owners-item
-bounds-owners-item c = omega (arith, inside c.before.before.before.before.before.before.before.before)
+bounds-owners-item c = omega (arith, item-within _ _ _ _ c.pages-test.true c.loop-place-test.true)
 
 pub bounds-plannedowners-item : goal.bounds-plannedowners-item
-bounds-plannedowners-item c = omega (arith, inside c.before.before.before.before.before.before.before.before.before)
+bounds-plannedowners-item c = omega (arith, item-within _ _ _ _ c.pages-test.true c.loop-place-test.true)
 
 pub overflow_add-place : goal.overflow_add-place
 overflow_add-place c = omega arith

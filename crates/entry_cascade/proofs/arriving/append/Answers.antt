@@ -71,7 +71,7 @@ shape_of-waiting c = c.loop-i.invariant.long
 
 pub returns : goal.returns
 returns c =
-    let upto : c.loop-i.i ≤ c.args.places = c.loop-i.inv.upto in
+    let upto : c.loop-i.i ≤ c.args.places = c.loop-i.invariant.upto in
     let e : c.loop-i.i ≡ c.args.places = omega (arith, upto, c.loop-i-test.false) in
     record {
       value = (appended_all c.args.places c.args.at c.args.numbers.now c.args.homes.now c.args.waiting.now c.args.end c.loop-i.waiting c.loop-i.reach c.loop-i.i c.loop-i.invariant c.requires.places_in_bounds.0 c.requires.places_in_bounds.1 e (omega (arith, c.requires.numbers_in_bounds))).0;

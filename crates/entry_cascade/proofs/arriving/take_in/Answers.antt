@@ -24,17 +24,17 @@ overflow_mul-at c =
 
 pub load-value-requires : goal.load-value-requires
 load-value-requires c =
-    let inside : {n : ℕ} → n ≡ c.args.geometry.parameters.pages * c.args.geometry.parameters.places → c.args.page * c.args.geometry.parameters.places + c.args.geometry.parameters.places ≤ n = λ e. page-fits _ _ _ c.requires.page_lt_pages.0 e in
+    let inside : (n : ℕ) → n ≡ c.args.geometry.parameters.pages * c.args.geometry.parameters.places → c.args.page * c.args.geometry.parameters.places + c.args.geometry.parameters.places ≤ n = λ n e. page-fits _ _ _ c.requires.page_lt_pages.0 e in
     record {
       places_bound = (limits _ c.requires.ready.homing.valid).places_most;
-      places_in_bounds = inside c.requires.ready.sized.of_numbers;
-      places_in_bounds_2 = inside c.requires.ready.sized.of_words_lem;
-      places_in_bounds_3 = inside c.requires.ready.sized.of_owners;
+      places_in_bounds = inside _ c.requires.ready.sized.of_numbers;
+      places_in_bounds_2 = inside _ c.requires.ready.sized.of_words_lem;
+      places_in_bounds_3 = inside _ c.requires.ready.sized.of_owners;
     }
 
 pub test_page-requires : goal.test_page-requires
 test_page-requires c =
-    let page = c.load-value.type-inv in
+    let page = c.load-value.type_inv in
     record {
       homing = c.requires.ready.homing;
       separators_len = (c.requires.ready.sized.of_separators, c.requires.waiting_len.1);
@@ -48,8 +48,8 @@ test_page-requires c =
 -- from the test of the page on
 pub returns-then-not-test_page : goal.returns-then-not-test_page
 returns-then-not-test_page c =
-    let inside : {n : ℕ} → n ≡ c.args.geometry.parameters.pages * c.args.geometry.parameters.places → c.args.page * c.args.geometry.parameters.places + c.args.geometry.parameters.places ≤ n = λ e. page-fits _ _ _ c.requires.page_lt_pages.0 e in
-    let told : c.test_page.result ≡ sound_at c.args.geometry.parameters c.args.geometry.growth (lent c.args.separators.now c.args.numbers.now c.args.words.now c.args.owners.now) c.args.page = c.test_page.ensures.sound ∙ sound-loaded _ _ (lent c.args.separators.now c.args.numbers.now c.args.words.now c.args.owners.now) _ _ (inside c.requires.ready.sized.of_numbers) (inside c.requires.ready.sized.of_words_lem) (inside c.requires.ready.sized.of_owners) c.load-value.ensures in
+    let inside : (n : ℕ) → n ≡ c.args.geometry.parameters.pages * c.args.geometry.parameters.places → c.args.page * c.args.geometry.parameters.places + c.args.geometry.parameters.places ≤ n = λ n e. page-fits _ _ _ c.requires.page_lt_pages.0 e in
+    let told : c.test_page.result ≡ sound_at c.args.geometry.parameters c.args.geometry.growth (lent c.args.separators.now c.args.numbers.now c.args.words.now c.args.owners.now) c.args.page = c.test_page.ensures.sound ∙ sound-loaded _ _ (lent c.args.separators.now c.args.numbers.now c.args.words.now c.args.owners.now) _ _ (inside _ c.requires.ready.sized.of_numbers) (inside _ c.requires.ready.sized.of_words_lem) (inside _ c.requires.ready.sized.of_owners) c.load-value.ensures in
     sym told ∙ c.if-not-test_page.true
 
 -- where the page is sound
@@ -59,13 +59,13 @@ overflow_sub-waiting c = omega (arith, c.requires.page_lt_pages.1)
 
 pub exceeds-requires : goal.exceeds-requires
 exceeds-requires c =
-    let inside : {n : ℕ} → n ≡ c.args.geometry.parameters.pages * c.args.geometry.parameters.places → c.args.page * c.args.geometry.parameters.places + c.args.geometry.parameters.places ≤ n = λ e. page-fits _ _ _ c.requires.page_lt_pages.0 e in
-    inside c.requires.ready.sized.of_numbers
+    let inside : (n : ℕ) → n ≡ c.args.geometry.parameters.pages * c.args.geometry.parameters.places → c.args.page * c.args.geometry.parameters.places + c.args.geometry.parameters.places ≤ n = λ n e. page-fits _ _ _ c.requires.page_lt_pages.0 e in
+    inside _ c.requires.ready.sized.of_numbers
 
 pub returns-then-exceeds : goal.returns-then-exceeds
 returns-then-exceeds c =
-    let inside : {n : ℕ} → n ≡ c.args.geometry.parameters.pages * c.args.geometry.parameters.places → c.args.page * c.args.geometry.parameters.places + c.args.geometry.parameters.places ≤ n = λ e. page-fits _ _ _ c.requires.page_lt_pages.0 e in
-    let told : c.test_page.result ≡ sound_at c.args.geometry.parameters c.args.geometry.growth (lent c.args.separators.now c.args.numbers.now c.args.words.now c.args.owners.now) c.args.page = c.test_page.ensures.sound ∙ sound-loaded _ _ (lent c.args.separators.now c.args.numbers.now c.args.words.now c.args.owners.now) _ _ (inside c.requires.ready.sized.of_numbers) (inside c.requires.ready.sized.of_words_lem) (inside c.requires.ready.sized.of_owners) c.load-value.ensures in
+    let inside : (n : ℕ) → n ≡ c.args.geometry.parameters.pages * c.args.geometry.parameters.places → c.args.page * c.args.geometry.parameters.places + c.args.geometry.parameters.places ≤ n = λ n e. page-fits _ _ _ c.requires.page_lt_pages.0 e in
+    let told : c.test_page.result ≡ sound_at c.args.geometry.parameters c.args.geometry.growth (lent c.args.separators.now c.args.numbers.now c.args.words.now c.args.owners.now) c.args.page = c.test_page.ensures.sound ∙ sound-loaded _ _ (lent c.args.separators.now c.args.numbers.now c.args.words.now c.args.owners.now) _ _ (inside _ c.requires.ready.sized.of_numbers) (inside _ c.requires.ready.sized.of_words_lem) (inside _ c.requires.ready.sized.of_owners) c.load-value.ensures in
     let sound : sound_at c.args.geometry.parameters c.args.geometry.growth (lent c.args.separators.now c.args.numbers.now c.args.words.now c.args.owners.now) c.args.page ≡ true = sym told ∙ c.if-not-test_page.false in
     let stars : (stars_in 0 (slice (c.args.page * c.args.geometry.parameters.places) (c.args.page * c.args.geometry.parameters.places + c.args.geometry.parameters.places) c.args.numbers.now)) ≡ length (page_words c.args.geometry.parameters c.args.geometry.growth (lent c.args.separators.now c.args.numbers.now c.args.words.now c.args.owners.now) c.args.page) = ap (stars_in 0) (slice-page c.args.geometry.parameters c.args.geometry.growth (lent c.args.separators.now c.args.numbers.now c.args.words.now c.args.owners.now) c.requires.ready.homing.valid c.requires.ready.sized c.args.page c.requires.page_lt_pages.0) ∙ sym (stars-count c.args.geometry.parameters c.args.geometry.growth (lent c.args.separators.now c.args.numbers.now c.args.words.now c.args.owners.now) c.requires.ready.homing.valid c.requires.ready.sized c.args.page c.requires.page_lt_pages.0) in
     let more = ltb-true (length c.args.waiting.now - c.args.end) (stars_in 0 (slice (c.args.page * c.args.geometry.parameters.places) (c.args.page * c.args.geometry.parameters.places + c.args.geometry.parameters.places) c.args.numbers.now)) (sym c.exceeds.ensures ∙ c.if-exceeds.true) in
@@ -73,8 +73,8 @@ returns-then-exceeds c =
 
 pub append-reach-requires : goal.append-reach-requires
 append-reach-requires c =
-    let inside : {n : ℕ} → n ≡ c.args.geometry.parameters.pages * c.args.geometry.parameters.places → c.args.page * c.args.geometry.parameters.places + c.args.geometry.parameters.places ≤ n = λ e. page-fits _ _ _ c.requires.page_lt_pages.0 e in
-    let told : c.test_page.result ≡ sound_at c.args.geometry.parameters c.args.geometry.growth (lent c.args.separators.now c.args.numbers.now c.args.words.now c.args.owners.now) c.args.page = c.test_page.ensures.sound ∙ sound-loaded _ _ (lent c.args.separators.now c.args.numbers.now c.args.words.now c.args.owners.now) _ _ (inside c.requires.ready.sized.of_numbers) (inside c.requires.ready.sized.of_words_lem) (inside c.requires.ready.sized.of_owners) c.load-value.ensures in
+    let inside : (n : ℕ) → n ≡ c.args.geometry.parameters.pages * c.args.geometry.parameters.places → c.args.page * c.args.geometry.parameters.places + c.args.geometry.parameters.places ≤ n = λ n e. page-fits _ _ _ c.requires.page_lt_pages.0 e in
+    let told : c.test_page.result ≡ sound_at c.args.geometry.parameters c.args.geometry.growth (lent c.args.separators.now c.args.numbers.now c.args.words.now c.args.owners.now) c.args.page = c.test_page.ensures.sound ∙ sound-loaded _ _ (lent c.args.separators.now c.args.numbers.now c.args.words.now c.args.owners.now) _ _ (inside _ c.requires.ready.sized.of_numbers) (inside _ c.requires.ready.sized.of_words_lem) (inside _ c.requires.ready.sized.of_owners) c.load-value.ensures in
     let sound : sound_at c.args.geometry.parameters c.args.geometry.growth (lent c.args.separators.now c.args.numbers.now c.args.words.now c.args.owners.now) c.args.page ≡ true = sym told ∙ c.if-not-test_page.false in
     let stars : (stars_in 0 (slice (c.args.page * c.args.geometry.parameters.places) (c.args.page * c.args.geometry.parameters.places + c.args.geometry.parameters.places) c.args.numbers.now)) ≡ length (page_words c.args.geometry.parameters c.args.geometry.growth (lent c.args.separators.now c.args.numbers.now c.args.words.now c.args.owners.now) c.args.page) = ap (stars_in 0) (slice-page c.args.geometry.parameters c.args.geometry.growth (lent c.args.separators.now c.args.numbers.now c.args.words.now c.args.owners.now) c.requires.ready.homing.valid c.requires.ready.sized c.args.page c.requires.page_lt_pages.0) ∙ sym (stars-count c.args.geometry.parameters c.args.geometry.growth (lent c.args.separators.now c.args.numbers.now c.args.words.now c.args.owners.now) c.requires.ready.homing.valid c.requires.ready.sized c.args.page c.requires.page_lt_pages.0) in
     let p = c.args.geometry.parameters in
@@ -98,8 +98,8 @@ append-reach-requires c =
 
 pub returns : goal.returns
 returns c =
-    let inside : {n : ℕ} → n ≡ c.args.geometry.parameters.pages * c.args.geometry.parameters.places → c.args.page * c.args.geometry.parameters.places + c.args.geometry.parameters.places ≤ n = λ e. page-fits _ _ _ c.requires.page_lt_pages.0 e in
-    let told : c.test_page.result ≡ sound_at c.args.geometry.parameters c.args.geometry.growth (lent c.args.separators.now c.args.numbers.now c.args.words.now c.args.owners.now) c.args.page = c.test_page.ensures.sound ∙ sound-loaded _ _ (lent c.args.separators.now c.args.numbers.now c.args.words.now c.args.owners.now) _ _ (inside c.requires.ready.sized.of_numbers) (inside c.requires.ready.sized.of_words_lem) (inside c.requires.ready.sized.of_owners) c.load-value.ensures in
+    let inside : (n : ℕ) → n ≡ c.args.geometry.parameters.pages * c.args.geometry.parameters.places → c.args.page * c.args.geometry.parameters.places + c.args.geometry.parameters.places ≤ n = λ n e. page-fits _ _ _ c.requires.page_lt_pages.0 e in
+    let told : c.test_page.result ≡ sound_at c.args.geometry.parameters c.args.geometry.growth (lent c.args.separators.now c.args.numbers.now c.args.words.now c.args.owners.now) c.args.page = c.test_page.ensures.sound ∙ sound-loaded _ _ (lent c.args.separators.now c.args.numbers.now c.args.words.now c.args.owners.now) _ _ (inside _ c.requires.ready.sized.of_numbers) (inside _ c.requires.ready.sized.of_words_lem) (inside _ c.requires.ready.sized.of_owners) c.load-value.ensures in
     let sound : sound_at c.args.geometry.parameters c.args.geometry.growth (lent c.args.separators.now c.args.numbers.now c.args.words.now c.args.owners.now) c.args.page ≡ true = sym told ∙ c.if-not-test_page.false in
     let p = c.args.geometry.parameters in
     let g = c.args.geometry.growth in

@@ -13,7 +13,6 @@ pub overflow_mul-page : goal.overflow_mul-page
 overflow_mul-page c =
     let inside : c.args.page < c.args.geometry.parameters.pages = page-inside c.args.geometry.parameters c.args.geometry.growth (lent c.args.separators.now c.args.numbers.now c.args.words.now c.args.owners.now) c.args.number c.args.page c.requires.enters.ready.homing.valid c.requires.enters.ready.sized c.requires.enters.number c.requires.enters.unheld c.requires.enters.here in
     let few : c.args.page * c.args.geometry.parameters.places + c.args.geometry.parameters.places < 65536 = page-few c.args.geometry.parameters c.args.geometry.growth (lent c.args.separators.now c.args.numbers.now c.args.words.now c.args.owners.now) c.requires.enters.ready.homing.valid c.requires.enters.ready.sized c.args.page inside in
-    let fits : c.args.page * c.args.geometry.parameters.places + c.args.geometry.parameters.places ≤ length c.args.numbers.now = page-fits _ _ _ inside c.requires.enters.ready.sized.of_numbers in
     record { fits = omega (arith, few) }
 
 pub overflow_add-page : goal.overflow_add-page
@@ -55,10 +54,10 @@ returns-then-numbers-page-eq0 c = c.fill_page.ensures
 pub push_along-requires : goal.push_along-requires
 push_along-requires c =
     record {
-      enters = ((c.requires.enters, c.requires.1)).0;
-      pool_len = ((c.requires.enters, c.requires.1)).1.0;
-      pages_in_bounds = ((c.requires.enters, c.requires.1)).1.1.0;
-      known_to = ((c.requires.enters, c.requires.1)).1.1.1;
+      enters = c.requires.enters;
+      pool_len = c.requires.pool_len;
+      pages_in_bounds = c.requires.pages_in_bounds;
+      known_to = c.requires.known_to;
     }
 
 pub returns : goal.returns

@@ -56,11 +56,10 @@ loop-at-init c =
 
 pub take_in-requires : goal.take_in-requires
 take_in-requires c =
-    let rolls : Rolling c.args.geometry.parameters c.args.geometry.growth (lent c.args.separators.now c.args.numbers.now c.args.words.now c.args.owners.now) c.args.number c.args.page c.loop-at.pool c.loop-at.planned c.loop-at.waiting c.loop-at.at c.loop-at.from c.loop-at.end = c.loop-at.inv.1.1.1.1 in
-    let pool-long : length c.loop-at.pool ≡ c.args.geometry.parameters.pages * c.args.geometry.parameters.places = c.loop-at.inv.0 ∙ c.requires.pool_len.0 in
-    let waiting-same : length c.loop-at.waiting ≡ length c.args.waiting.now = c.loop-at.inv.1.0 ∙ simp length-set in
+    let rolls : Rolling c.args.geometry.parameters c.args.geometry.growth (lent c.args.separators.now c.args.numbers.now c.args.words.now c.args.owners.now) c.args.number c.args.page c.loop-at.pool c.loop-at.planned c.loop-at.waiting c.loop-at.at c.loop-at.from c.loop-at.end = c.loop-at.invariant.1.1.1.1 in
+    let pool-long : length c.loop-at.pool ≡ c.args.geometry.parameters.pages * c.args.geometry.parameters.places = c.loop-at.invariant.0 ∙ c.requires.pool_len.0 in
+    let waiting-same : length c.loop-at.waiting ≡ length c.args.waiting.now = c.loop-at.invariant.1.0 ∙ simp length-set in
     let waiting-long : length c.loop-at.waiting ≡ c.args.geometry.parameters.pages * c.args.geometry.parameters.places = waiting-same ∙ c.requires.pool_len.1 in
-    let known : (t : Taken) → c.take_in.result ≡ t → TakenIn c.args.geometry.parameters c.args.geometry.growth (lent c.args.separators.now c.args.numbers.now c.args.words.now c.args.owners.now) c.loop-at.at c.loop-at.end c.loop-at.waiting c.take_in.last.1.1.1.1.1.1.1.0 t = λ t e. subst (λ (t : Taken). TakenIn c.args.geometry.parameters c.args.geometry.growth (lent c.args.separators.now c.args.numbers.now c.args.words.now c.args.owners.now) c.loop-at.at c.loop-at.end c.loop-at.waiting c.take_in.last.1.1.1.1.1.1.1.0 t) e c.take_in.ensures in
     record {
       ready = c.requires.enters.ready;
       waiting_len = (waiting-long, pool-long);
@@ -70,61 +69,61 @@ take_in-requires c =
 
 pub shape_of-waiting-in-Unsound : goal.shape_of-waiting-in-Unsound
 shape_of-waiting-in-Unsound c =
-    let waiting-same : length c.loop-at.waiting ≡ length c.args.waiting.now = c.loop-at.inv.1.0 ∙ simp length-set in
-    let waiting_kept : length c.take_in.last.1.1.1.1.1.1.1.0 ≡ length c.args.waiting.now = c.take_in.kept.1.1.1.1.1.1.1.0 ∙ waiting-same in
+    let waiting-same : length c.loop-at.waiting ≡ length c.args.waiting.now = c.loop-at.invariant.1.0 ∙ simp length-set in
+    let waiting_kept : length c.take_in.new.waiting ≡ length c.args.waiting.now = c.take_in.auto.waiting ∙ waiting-same in
     waiting_kept
 
 pub returns-in-Unsound : goal.returns-in-Unsound
 returns-in-Unsound c =
-    let rolls : Rolling c.args.geometry.parameters c.args.geometry.growth (lent c.args.separators.now c.args.numbers.now c.args.words.now c.args.owners.now) c.args.number c.args.page c.loop-at.pool c.loop-at.planned c.loop-at.waiting c.loop-at.at c.loop-at.from c.loop-at.end = c.loop-at.inv.1.1.1.1 in
-    let inside : c.loop-at.at < c.args.geometry.parameters.pages = c.loop-at-test.taken in
-    let known : (t : Taken) → c.take_in.result ≡ t → TakenIn c.args.geometry.parameters c.args.geometry.growth (lent c.args.separators.now c.args.numbers.now c.args.words.now c.args.owners.now) c.loop-at.at c.loop-at.end c.loop-at.waiting c.take_in.last.1.1.1.1.1.1.1.0 t = λ t e. subst (λ (t : Taken). TakenIn c.args.geometry.parameters c.args.geometry.growth (lent c.args.separators.now c.args.numbers.now c.args.words.now c.args.owners.now) c.loop-at.at c.loop-at.end c.loop-at.waiting c.take_in.last.1.1.1.1.1.1.1.0 t) e c.take_in.ensures in
+    let rolls : Rolling c.args.geometry.parameters c.args.geometry.growth (lent c.args.separators.now c.args.numbers.now c.args.words.now c.args.owners.now) c.args.number c.args.page c.loop-at.pool c.loop-at.planned c.loop-at.waiting c.loop-at.at c.loop-at.from c.loop-at.end = c.loop-at.invariant.1.1.1.1 in
+    let inside : c.loop-at.at < c.args.geometry.parameters.pages = c.loop-at-test.true in
+    let known : (t : Taken) → c.take_in.result ≡ t → TakenIn c.args.geometry.parameters c.args.geometry.growth (lent c.args.separators.now c.args.numbers.now c.args.words.now c.args.owners.now) c.loop-at.at c.loop-at.end c.loop-at.waiting c.take_in.new.waiting t = λ t e. subst (λ (t : Taken). TakenIn c.args.geometry.parameters c.args.geometry.growth (lent c.args.separators.now c.args.numbers.now c.args.words.now c.args.owners.now) c.loop-at.at c.loop-at.end c.loop-at.waiting c.take_in.new.waiting t) e c.take_in.ensures in
     let e = c.requires.enters in
     rolling_unsound c.args.geometry.parameters c.args.geometry.growth (lent c.args.separators.now c.args.numbers.now c.args.words.now c.args.owners.now) c.args.number c.args.page e.ready.homing.valid e.ready.sized e.number e.unheld e.here
-    c.loop-at.pool c.loop-at.planned c.loop-at.waiting c.loop-at.at c.loop-at.from c.loop-at.end rolls inside (known Unsound c.enum_told-1.given.1)
+    c.loop-at.pool c.loop-at.planned c.loop-at.waiting c.loop-at.at c.loop-at.from c.loop-at.end rolls inside (known Unsound c.in-Unsound.is)
 
 pub shape_of-waiting-in-Crowded : goal.shape_of-waiting-in-Crowded
 shape_of-waiting-in-Crowded c =
-    let waiting-same : length c.loop-at.waiting ≡ length c.args.waiting.now = c.loop-at.inv.1.0 ∙ simp length-set in
-    let waiting_kept : length c.take_in.last.1.1.1.1.1.1.1.0 ≡ length c.args.waiting.now = c.take_in.kept.1.1.1.1.1.1.1.0 ∙ waiting-same in
+    let waiting-same : length c.loop-at.waiting ≡ length c.args.waiting.now = c.loop-at.invariant.1.0 ∙ simp length-set in
+    let waiting_kept : length c.take_in.new.waiting ≡ length c.args.waiting.now = c.take_in.auto.waiting ∙ waiting-same in
     waiting_kept
 
 pub returns-in-Crowded : goal.returns-in-Crowded
 returns-in-Crowded c =
-    let rolls : Rolling c.args.geometry.parameters c.args.geometry.growth (lent c.args.separators.now c.args.numbers.now c.args.words.now c.args.owners.now) c.args.number c.args.page c.loop-at.pool c.loop-at.planned c.loop-at.waiting c.loop-at.at c.loop-at.from c.loop-at.end = c.loop-at.inv.1.1.1.1 in
-    let pool-long : length c.loop-at.pool ≡ c.args.geometry.parameters.pages * c.args.geometry.parameters.places = c.loop-at.inv.0 ∙ c.requires.pool_len.0 in
-    let planned-long : c.args.geometry.parameters.pages ≤ length c.loop-at.planned = omega (arith, c.loop-at.inv.1.1.0, c.requires.pages_in_bounds) in
-    let inside : c.loop-at.at < c.args.geometry.parameters.pages = c.loop-at-test.taken in
-    let known : (t : Taken) → c.take_in.result ≡ t → TakenIn c.args.geometry.parameters c.args.geometry.growth (lent c.args.separators.now c.args.numbers.now c.args.words.now c.args.owners.now) c.loop-at.at c.loop-at.end c.loop-at.waiting c.take_in.last.1.1.1.1.1.1.1.0 t = λ t e. subst (λ (t : Taken). TakenIn c.args.geometry.parameters c.args.geometry.growth (lent c.args.separators.now c.args.numbers.now c.args.words.now c.args.owners.now) c.loop-at.at c.loop-at.end c.loop-at.waiting c.take_in.last.1.1.1.1.1.1.1.0 t) e c.take_in.ensures in
+    let rolls : Rolling c.args.geometry.parameters c.args.geometry.growth (lent c.args.separators.now c.args.numbers.now c.args.words.now c.args.owners.now) c.args.number c.args.page c.loop-at.pool c.loop-at.planned c.loop-at.waiting c.loop-at.at c.loop-at.from c.loop-at.end = c.loop-at.invariant.1.1.1.1 in
+    let pool-long : length c.loop-at.pool ≡ c.args.geometry.parameters.pages * c.args.geometry.parameters.places = c.loop-at.invariant.0 ∙ c.requires.pool_len.0 in
+    let planned-long : c.args.geometry.parameters.pages ≤ length c.loop-at.planned = omega (arith, c.loop-at.invariant.1.1.0, c.requires.pages_in_bounds) in
+    let inside : c.loop-at.at < c.args.geometry.parameters.pages = c.loop-at-test.true in
+    let known : (t : Taken) → c.take_in.result ≡ t → TakenIn c.args.geometry.parameters c.args.geometry.growth (lent c.args.separators.now c.args.numbers.now c.args.words.now c.args.owners.now) c.loop-at.at c.loop-at.end c.loop-at.waiting c.take_in.new.waiting t = λ t e. subst (λ (t : Taken). TakenIn c.args.geometry.parameters c.args.geometry.growth (lent c.args.separators.now c.args.numbers.now c.args.words.now c.args.owners.now) c.loop-at.at c.loop-at.end c.loop-at.waiting c.take_in.new.waiting t) e c.take_in.ensures in
     let e = c.requires.enters in
     rolling_crowded c.args.geometry.parameters c.args.geometry.growth (lent c.args.separators.now c.args.numbers.now c.args.words.now c.args.owners.now) c.args.number c.args.page e.ready.homing.valid e.ready.sized e.number e.unheld e.here
-    c.loop-at.pool c.loop-at.planned c.loop-at.waiting c.loop-at.at c.loop-at.from c.loop-at.end rolls inside pool-long planned-long (known Crowded c.enum_told-in-Crowded-1.given.1)
+    c.loop-at.pool c.loop-at.planned c.loop-at.waiting c.loop-at.at c.loop-at.from c.loop-at.end rolls inside pool-long planned-long (known Crowded c.in-Crowded.is)
 
 pub bounds-separators-at : goal.bounds-separators-at
 bounds-separators-at c =
-    let inside : c.loop-at.at < c.args.geometry.parameters.pages = c.loop-at-test.taken in
+    let inside : c.loop-at.at < c.args.geometry.parameters.pages = c.loop-at-test.true in
     omega (arith, inside, c.requires.enters.ready.sized.of_separators)
 
 pub overflow_cast-most : goal.overflow_cast-most
-overflow_cast-most c = omega (arith, c.shared_slice_known-in-Joined-1.given c.loop-at.at)
+overflow_cast-most c = omega (arith, c.type_inv.separators c.loop-at.at)
 
 pub lower_page-from-requires : goal.lower_page-from-requires
 lower_page-from-requires c =
-    let rolls : Rolling c.args.geometry.parameters c.args.geometry.growth (lent c.args.separators.now c.args.numbers.now c.args.words.now c.args.owners.now) c.args.number c.args.page c.loop-at.pool c.loop-at.planned c.loop-at.waiting c.loop-at.at c.loop-at.from c.loop-at.end = c.loop-at.inv.1.1.1.1 in
-    let pool-long : length c.loop-at.pool ≡ c.args.geometry.parameters.pages * c.args.geometry.parameters.places = c.loop-at.inv.0 ∙ c.requires.pool_len.0 in
-    let planned-long : c.args.geometry.parameters.pages ≤ length c.loop-at.planned = omega (arith, c.loop-at.inv.1.1.0, c.requires.pages_in_bounds) in
-    let inside : c.loop-at.at < c.args.geometry.parameters.pages = c.loop-at-test.taken in
-    let known : (t : Taken) → c.take_in.result ≡ t → TakenIn c.args.geometry.parameters c.args.geometry.growth (lent c.args.separators.now c.args.numbers.now c.args.words.now c.args.owners.now) c.loop-at.at c.loop-at.end c.loop-at.waiting c.take_in.last.1.1.1.1.1.1.1.0 t = λ t e. subst (λ (t : Taken). TakenIn c.args.geometry.parameters c.args.geometry.growth (lent c.args.separators.now c.args.numbers.now c.args.words.now c.args.owners.now) c.loop-at.at c.loop-at.end c.loop-at.waiting c.take_in.last.1.1.1.1.1.1.1.0 t) e c.take_in.ensures in
-    let joins : (reach : ℕ) → c.take_in.result ≡ Joined reach → Joins c.args.geometry.parameters c.args.geometry.growth (lent c.args.separators.now c.args.numbers.now c.args.words.now c.args.owners.now) c.loop-at.at c.loop-at.end c.loop-at.waiting c.take_in.last.1.1.1.1.1.1.1.0 reach = λ reach e. known (Joined reach) e in
-    let waiting-same : length c.loop-at.waiting ≡ length c.args.waiting.now = c.loop-at.inv.1.0 ∙ simp length-set in
-    let waiting_kept : length c.take_in.last.1.1.1.1.1.1.1.0 ≡ length c.args.waiting.now = c.take_in.kept.1.1.1.1.1.1.1.0 ∙ waiting-same in
+    let rolls : Rolling c.args.geometry.parameters c.args.geometry.growth (lent c.args.separators.now c.args.numbers.now c.args.words.now c.args.owners.now) c.args.number c.args.page c.loop-at.pool c.loop-at.planned c.loop-at.waiting c.loop-at.at c.loop-at.from c.loop-at.end = c.loop-at.invariant.1.1.1.1 in
+    let pool-long : length c.loop-at.pool ≡ c.args.geometry.parameters.pages * c.args.geometry.parameters.places = c.loop-at.invariant.0 ∙ c.requires.pool_len.0 in
+    let planned-long : c.args.geometry.parameters.pages ≤ length c.loop-at.planned = omega (arith, c.loop-at.invariant.1.1.0, c.requires.pages_in_bounds) in
+    let inside : c.loop-at.at < c.args.geometry.parameters.pages = c.loop-at-test.true in
+    let known : (t : Taken) → c.take_in.result ≡ t → TakenIn c.args.geometry.parameters c.args.geometry.growth (lent c.args.separators.now c.args.numbers.now c.args.words.now c.args.owners.now) c.loop-at.at c.loop-at.end c.loop-at.waiting c.take_in.new.waiting t = λ t e. subst (λ (t : Taken). TakenIn c.args.geometry.parameters c.args.geometry.growth (lent c.args.separators.now c.args.numbers.now c.args.words.now c.args.owners.now) c.loop-at.at c.loop-at.end c.loop-at.waiting c.take_in.new.waiting t) e c.take_in.ensures in
+    let joins : (reach : ℕ) → c.take_in.result ≡ Joined reach → Joins c.args.geometry.parameters c.args.geometry.growth (lent c.args.separators.now c.args.numbers.now c.args.words.now c.args.owners.now) c.loop-at.at c.loop-at.end c.loop-at.waiting c.take_in.new.waiting reach = λ reach e. known (Joined reach) e in
+    let waiting-same : length c.loop-at.waiting ≡ length c.args.waiting.now = c.loop-at.invariant.1.0 ∙ simp length-set in
+    let waiting_kept : length c.take_in.new.waiting ≡ length c.args.waiting.now = c.take_in.auto.waiting ∙ waiting-same in
     let e = c.requires.enters in
-    let v = c.reach-1.given in record {
+    record {
       signers = first-signers e.ready.homing.table e.ready.homing.valid;
       probing = rolling_probing c.args.geometry.parameters c.args.geometry.growth (lent c.args.separators.now c.args.numbers.now c.args.words.now c.args.owners.now) c.args.number c.args.page e.ready.homing.valid e.ready.sized e.number e.unheld e.here
-          c.loop-at.pool c.loop-at.planned c.loop-at.waiting c.loop-at.at c.loop-at.from c.loop-at.end rolls inside c.take_in.new.1.1.1.1.1.1.1.0 v.0.0 (joins v.0.0 v.1) (waiting_kept ∙ c.requires.pool_len.1);
+          c.loop-at.pool c.loop-at.planned c.loop-at.waiting c.loop-at.at c.loop-at.from c.loop-at.end rolls inside c.take_in.new.waiting c.in-Joined.reach (joins c.in-Joined.reach c.in-Joined.is) (waiting_kept ∙ c.requires.pool_len.1);
       most_bound = (
-        omega (arith, c.shared_slice_known-in-Joined-1.given c.loop-at.at),
+        omega (arith, c.type_inv.separators c.loop-at.at),
         (omega (arith, inside, planned-long), page-fits _ _ _ inside pool-long),
       );
     }
@@ -132,49 +131,49 @@ lower_page-from-requires c =
 -- from the page's plan on
 pub returns-then-from-reach : goal.returns-then-from-reach
 returns-then-from-reach c =
-    let rolls : Rolling c.args.geometry.parameters c.args.geometry.growth (lent c.args.separators.now c.args.numbers.now c.args.words.now c.args.owners.now) c.args.number c.args.page c.loop-at.pool c.loop-at.planned c.loop-at.waiting c.loop-at.at c.loop-at.from c.loop-at.end = c.loop-at.inv.1.1.1.1 in
-    let pool-long : length c.loop-at.pool ≡ c.args.geometry.parameters.pages * c.args.geometry.parameters.places = c.loop-at.inv.0 ∙ c.requires.pool_len.0 in
-    let planned-long : c.args.geometry.parameters.pages ≤ length c.loop-at.planned = omega (arith, c.loop-at.inv.1.1.0, c.requires.pages_in_bounds) in
-    let inside : c.loop-at.at < c.args.geometry.parameters.pages = c.loop-at-test.taken in
-    let known : (t : Taken) → c.take_in.result ≡ t → TakenIn c.args.geometry.parameters c.args.geometry.growth (lent c.args.separators.now c.args.numbers.now c.args.words.now c.args.owners.now) c.loop-at.at c.loop-at.end c.loop-at.waiting c.take_in.last.1.1.1.1.1.1.1.0 t = λ t e. subst (λ (t : Taken). TakenIn c.args.geometry.parameters c.args.geometry.growth (lent c.args.separators.now c.args.numbers.now c.args.words.now c.args.owners.now) c.loop-at.at c.loop-at.end c.loop-at.waiting c.take_in.last.1.1.1.1.1.1.1.0 t) e c.take_in.ensures in
-    let joins : (reach : ℕ) → c.take_in.result ≡ Joined reach → Joins c.args.geometry.parameters c.args.geometry.growth (lent c.args.separators.now c.args.numbers.now c.args.words.now c.args.owners.now) c.loop-at.at c.loop-at.end c.loop-at.waiting c.take_in.last.1.1.1.1.1.1.1.0 reach = λ reach e. known (Joined reach) e in
+    let rolls : Rolling c.args.geometry.parameters c.args.geometry.growth (lent c.args.separators.now c.args.numbers.now c.args.words.now c.args.owners.now) c.args.number c.args.page c.loop-at.pool c.loop-at.planned c.loop-at.waiting c.loop-at.at c.loop-at.from c.loop-at.end = c.loop-at.invariant.1.1.1.1 in
+    let pool-long : length c.loop-at.pool ≡ c.args.geometry.parameters.pages * c.args.geometry.parameters.places = c.loop-at.invariant.0 ∙ c.requires.pool_len.0 in
+    let planned-long : c.args.geometry.parameters.pages ≤ length c.loop-at.planned = omega (arith, c.loop-at.invariant.1.1.0, c.requires.pages_in_bounds) in
+    let inside : c.loop-at.at < c.args.geometry.parameters.pages = c.loop-at-test.true in
+    let known : (t : Taken) → c.take_in.result ≡ t → TakenIn c.args.geometry.parameters c.args.geometry.growth (lent c.args.separators.now c.args.numbers.now c.args.words.now c.args.owners.now) c.loop-at.at c.loop-at.end c.loop-at.waiting c.take_in.new.waiting t = λ t e. subst (λ (t : Taken). TakenIn c.args.geometry.parameters c.args.geometry.growth (lent c.args.separators.now c.args.numbers.now c.args.words.now c.args.owners.now) c.loop-at.at c.loop-at.end c.loop-at.waiting c.take_in.new.waiting t) e c.take_in.ensures in
+    let joins : (reach : ℕ) → c.take_in.result ≡ Joined reach → Joins c.args.geometry.parameters c.args.geometry.growth (lent c.args.separators.now c.args.numbers.now c.args.words.now c.args.owners.now) c.loop-at.at c.loop-at.end c.loop-at.waiting c.take_in.new.waiting reach = λ reach e. known (Joined reach) e in
     let e = c.requires.enters in
     rolling_ends c.args.geometry.parameters c.args.geometry.growth (lent c.args.separators.now c.args.numbers.now c.args.words.now c.args.owners.now) c.args.number c.args.page e.ready.homing.valid e.ready.sized e.number e.unheld e.here
-    c.loop-at.pool c.loop-at.planned c.loop-at.waiting c.loop-at.at c.loop-at.from c.loop-at.end rolls inside c.take_in.last.1.1.1.1.1.1.1.0 (c.reach-1.given.0.0) (joins (c.reach-1.given.0.0) c.reach-1.given.1) pool-long planned-long
-    c.lower_page-from.new.1.1.1.0 c.lower_page-from.new.1.1.1.1.1.0 c.lower_page-from.new.1.1.1.1.0 c.lower_page-from.result c.lower_page-from.ensures c.lower_page-from.auto.waiting c.if-from-reach.true
+    c.loop-at.pool c.loop-at.planned c.loop-at.waiting c.loop-at.at c.loop-at.from c.loop-at.end rolls inside c.take_in.new.waiting c.in-Joined.reach (joins c.in-Joined.reach c.in-Joined.is) pool-long planned-long
+    c.lower_page-from.new.pool c.lower_page-from.new.planned c.lower_page-from.new.waiting c.lower_page-from.result c.lower_page-from.ensures c.lower_page-from.auto.waiting c.if-from-reach.true
 
 pub overflow_add-at : goal.overflow_add-at
 overflow_add-at c =
     let bounds : Limits c.args.geometry.parameters = limits c.args.geometry.parameters c.requires.enters.ready.homing.valid in
-    let inside : c.loop-at.at < c.args.geometry.parameters.pages = c.loop-at-test.taken in
+    let inside : c.loop-at.at < c.args.geometry.parameters.pages = c.loop-at-test.true in
     omega (arith, inside, bounds.pages_most)
 
 pub loop-at-smaller : goal.loop-at-smaller
 loop-at-smaller c =
-    let inside : c.loop-at.at < c.args.geometry.parameters.pages = c.loop-at-test.taken in
+    let inside : c.loop-at.at < c.args.geometry.parameters.pages = c.loop-at-test.true in
     omega (arith, inside)
 
 pub loop-at-preserved : goal.loop-at-preserved
 loop-at-preserved c =
-    let rolls : Rolling c.args.geometry.parameters c.args.geometry.growth (lent c.args.separators.now c.args.numbers.now c.args.words.now c.args.owners.now) c.args.number c.args.page c.loop-at.pool c.loop-at.planned c.loop-at.waiting c.loop-at.at c.loop-at.from c.loop-at.end = c.loop-at.inv.1.1.1.1 in
-    let pool-long : length c.loop-at.pool ≡ c.args.geometry.parameters.pages * c.args.geometry.parameters.places = c.loop-at.inv.0 ∙ c.requires.pool_len.0 in
-    let planned-long : c.args.geometry.parameters.pages ≤ length c.loop-at.planned = omega (arith, c.loop-at.inv.1.1.0, c.requires.pages_in_bounds) in
-    let inside : c.loop-at.at < c.args.geometry.parameters.pages = c.loop-at-test.taken in
-    let known : (t : Taken) → c.take_in.result ≡ t → TakenIn c.args.geometry.parameters c.args.geometry.growth (lent c.args.separators.now c.args.numbers.now c.args.words.now c.args.owners.now) c.loop-at.at c.loop-at.end c.loop-at.waiting c.take_in.last.1.1.1.1.1.1.1.0 t = λ t e. subst (λ (t : Taken). TakenIn c.args.geometry.parameters c.args.geometry.growth (lent c.args.separators.now c.args.numbers.now c.args.words.now c.args.owners.now) c.loop-at.at c.loop-at.end c.loop-at.waiting c.take_in.last.1.1.1.1.1.1.1.0 t) e c.take_in.ensures in
-    let joins : (reach : ℕ) → c.take_in.result ≡ Joined reach → Joins c.args.geometry.parameters c.args.geometry.growth (lent c.args.separators.now c.args.numbers.now c.args.words.now c.args.owners.now) c.loop-at.at c.loop-at.end c.loop-at.waiting c.take_in.last.1.1.1.1.1.1.1.0 reach = λ reach e. known (Joined reach) e in
+    let rolls : Rolling c.args.geometry.parameters c.args.geometry.growth (lent c.args.separators.now c.args.numbers.now c.args.words.now c.args.owners.now) c.args.number c.args.page c.loop-at.pool c.loop-at.planned c.loop-at.waiting c.loop-at.at c.loop-at.from c.loop-at.end = c.loop-at.invariant.1.1.1.1 in
+    let pool-long : length c.loop-at.pool ≡ c.args.geometry.parameters.pages * c.args.geometry.parameters.places = c.loop-at.invariant.0 ∙ c.requires.pool_len.0 in
+    let planned-long : c.args.geometry.parameters.pages ≤ length c.loop-at.planned = omega (arith, c.loop-at.invariant.1.1.0, c.requires.pages_in_bounds) in
+    let inside : c.loop-at.at < c.args.geometry.parameters.pages = c.loop-at-test.true in
+    let known : (t : Taken) → c.take_in.result ≡ t → TakenIn c.args.geometry.parameters c.args.geometry.growth (lent c.args.separators.now c.args.numbers.now c.args.words.now c.args.owners.now) c.loop-at.at c.loop-at.end c.loop-at.waiting c.take_in.new.waiting t = λ t e. subst (λ (t : Taken). TakenIn c.args.geometry.parameters c.args.geometry.growth (lent c.args.separators.now c.args.numbers.now c.args.words.now c.args.owners.now) c.loop-at.at c.loop-at.end c.loop-at.waiting c.take_in.new.waiting t) e c.take_in.ensures in
+    let joins : (reach : ℕ) → c.take_in.result ≡ Joined reach → Joins c.args.geometry.parameters c.args.geometry.growth (lent c.args.separators.now c.args.numbers.now c.args.words.now c.args.owners.now) c.loop-at.at c.loop-at.end c.loop-at.waiting c.take_in.new.waiting reach = λ reach e. known (Joined reach) e in
     let e = c.requires.enters in (
-      c.lower_page-from.auto.pool ∙ c.loop-at.inv.0,
+      c.lower_page-from.auto.pool ∙ c.loop-at.invariant.0,
       (
-        c.lower_page-from.auto.waiting ∙ (c.take_in.kept.1.1.1.1.1.1.1.0 ∙ c.loop-at.inv.1.0),
+        c.lower_page-from.auto.waiting ∙ (c.take_in.auto.waiting ∙ c.loop-at.invariant.1.0),
         (
-          c.lower_page-from.auto.planned ∙ c.loop-at.inv.1.1.0,
+          c.lower_page-from.auto.planned ∙ c.loop-at.invariant.1.1.0,
           (
             rolling_known c.args.geometry.parameters c.args.geometry.growth (lent c.args.separators.now c.args.numbers.now c.args.words.now c.args.owners.now) c.args.number c.args.page e.ready.homing.valid e.ready.sized e.number e.unheld e.here
-                c.loop-at.pool c.loop-at.planned c.loop-at.waiting c.loop-at.at c.loop-at.from c.loop-at.end rolls inside c.take_in.last.1.1.1.1.1.1.1.0 (c.reach-1.given.0.0) (joins (c.reach-1.given.0.0) c.reach-1.given.1) pool-long planned-long
-                c.lower_page-from.new.1.1.1.0 c.lower_page-from.new.1.1.1.1.1.0 c.lower_page-from.new.1.1.1.1.0 c.lower_page-from.result c.lower_page-from.ensures c.args.tested c.loop-at.inv.1.1.1.0,
+                c.loop-at.pool c.loop-at.planned c.loop-at.waiting c.loop-at.at c.loop-at.from c.loop-at.end rolls inside c.take_in.new.waiting c.in-Joined.reach (joins c.in-Joined.reach c.in-Joined.is) pool-long planned-long
+                c.lower_page-from.new.pool c.lower_page-from.new.planned c.lower_page-from.new.waiting c.lower_page-from.result c.lower_page-from.ensures c.args.tested c.loop-at.invariant.1.1.1.0,
             rolling_next c.args.geometry.parameters c.args.geometry.growth (lent c.args.separators.now c.args.numbers.now c.args.words.now c.args.owners.now) c.args.number c.args.page e.ready.homing.valid e.ready.sized e.number e.unheld e.here
-                c.loop-at.pool c.loop-at.planned c.loop-at.waiting c.loop-at.at c.loop-at.from c.loop-at.end rolls inside c.take_in.last.1.1.1.1.1.1.1.0 (c.reach-1.given.0.0) (joins (c.reach-1.given.0.0) c.reach-1.given.1) pool-long planned-long
-                c.lower_page-from.new.1.1.1.0 c.lower_page-from.new.1.1.1.1.1.0 c.lower_page-from.new.1.1.1.1.0 c.lower_page-from.result c.lower_page-from.ensures c.lower_page-from.auto.waiting c.if-from-reach.false,
+                c.loop-at.pool c.loop-at.planned c.loop-at.waiting c.loop-at.at c.loop-at.from c.loop-at.end rolls inside c.take_in.new.waiting c.in-Joined.reach (joins c.in-Joined.reach c.in-Joined.is) pool-long planned-long
+                c.lower_page-from.new.pool c.lower_page-from.new.planned c.lower_page-from.new.waiting c.lower_page-from.result c.lower_page-from.ensures c.lower_page-from.auto.waiting c.if-from-reach.false,
           ),
         ),
       ),
@@ -185,7 +184,7 @@ shape_of-pool c = c.loop-at.invariant.0
 
 pub shape_of-waiting : goal.shape_of-waiting
 shape_of-waiting c =
-    let waiting-same : length c.loop-at.waiting ≡ length c.args.waiting.now = c.loop-at.inv.1.0 ∙ simp length-set in
+    let waiting-same : length c.loop-at.waiting ≡ length c.args.waiting.now = c.loop-at.invariant.1.0 ∙ simp length-set in
     waiting-same
 
 pub shape_of-planned : goal.shape_of-planned
@@ -193,7 +192,7 @@ shape_of-planned c = c.loop-at.invariant.1.1.0
 
 pub returns : goal.returns
 returns c =
-    let rolls : Rolling c.args.geometry.parameters c.args.geometry.growth (lent c.args.separators.now c.args.numbers.now c.args.words.now c.args.owners.now) c.args.number c.args.page c.loop-at.pool c.loop-at.planned c.loop-at.waiting c.loop-at.at c.loop-at.from c.loop-at.end = c.loop-at.inv.1.1.1.1 in
+    let rolls : Rolling c.args.geometry.parameters c.args.geometry.growth (lent c.args.separators.now c.args.numbers.now c.args.words.now c.args.owners.now) c.args.number c.args.page c.loop-at.pool c.loop-at.planned c.loop-at.waiting c.loop-at.at c.loop-at.from c.loop-at.end = c.loop-at.invariant.1.1.1.1 in
     let e = c.requires.enters in
     rolling_overflow c.args.geometry.parameters c.args.geometry.growth (lent c.args.separators.now c.args.numbers.now c.args.words.now c.args.owners.now) c.args.number c.args.page e.ready.homing.valid e.ready.sized e.number e.unheld e.here
     c.loop-at.pool c.loop-at.planned c.loop-at.waiting c.loop-at.at c.loop-at.from c.loop-at.end rolls c.loop-at-test.false

@@ -3,7 +3,6 @@ use mathlib.Core.Path.{◌∙◌, sym}
 use Prim.Native.Nat.{ℕ, ◌*◌, ◌≤◌}
 use native.Mathlib.Nat.{mul-le-mul, mod-eq_of_lt, mod-eq-sub-mod}
 use native.Mathlib.Omega.{arith}
-use borrow.Author.Rules.{rules}
 use Rattle.generator.proofs.Numbers.{halves}
 use Rattle.generator.proofs.signatures.residue.Goals as goal
 use Rattle.generator.proofs.signatures.residue.Goals.{Start}

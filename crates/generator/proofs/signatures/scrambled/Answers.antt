@@ -2,7 +2,6 @@
 use mathlib.Core.Path.{◌≡◌, ◌∙◌}
 use Prim.Native.Nat.{◌+◌, ◌-◌, ◌%◌}
 use native.Mathlib.Omega.{arith}
-use borrow.Author.Rules.{rules}
 use Rattle.generator.specs.Generator.{modulus, multipliers}
 use Rattle.generator.proofs.Powers.{entry-below, times_entry}
 use Rattle.generator.proofs.Scrambling.{scrambled-key}

@@ -1,7 +1,6 @@
 -- `generator::signature_by` meets its contract.
 use mathlib.Core.Path.{◌∙◌, ap}
 use Prim.Native.Nat.{ℕ, ◌%◌}
-use borrow.Author.Rules.{rules}
 use Rattle.generator.specs.Generator.{modulus, top_of_lem}
 use Rattle.generator.proofs.Numbers.{mul_mod_right}
 use Rattle.generator.proofs.signatures.signature_by.Goals as goal

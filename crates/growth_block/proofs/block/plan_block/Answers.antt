@@ -20,8 +20,6 @@ use Rattle.growth_block.proofs.block.plan_block.Goals as goal
 -- the numbers alone, as a file
 pub page_behind-stop-requires : goal.page_behind-stop-requires
 page_behind-stop-requires c =
-    let found : BlockAt c.args.geometry.parameters c.args.separators.now c.args.step c.block_start-lo.result c.stretch_end-last.result c.page_behind-stop.result = block_at _ _ _ _ _ _ _ c.requires.step_bound.1 c.requires.step_bound.0 c.top_of-top.ensures c.block_start-lo.ensures c.stretch_end-last.ensures c.page_behind-stop.ensures in
-    let low : c.block_start-lo.result ≤ c.page_behind-stop.result = omega (arith, found.starts.low, found.past) in
     let low : c.args.step < length c.args.separators.now = omega (arith, c.requires.step_bound) in
     let high : c.stretch_end-last.result < length c.args.separators.now =
     ends-inside c.args.separators.now c.top_of-top.result c.args.step c.stretch_end-last.result low c.stretch_end-last.ensures in
@@ -81,7 +79,7 @@ plan-requires c =
     let count : c.block_start-lo.result + suc (c.page_behind-stop.result - c.block_start-lo.result) ≤ c.args.geometry.parameters.pages = omega (arith, low, found.inside) in
     let size : length c.args.pool.now ≡ c.args.geometry.parameters.pages * c.args.geometry.parameters.places = length-homes _ _ _ _ c.requires.pool_value ∙ c.requires.numbers_len.0 in
     let sized : Sized c.args.geometry.parameters.places c.args.geometry.parameters.pages (lent c.args.separators.now c.args.numbers.now c.args.numbers.now c.args.numbers.now) = record { of_separators = c.requires.step_bound.1; of_numbers = c.requires.numbers_len.0; of_words_lem = c.requires.numbers_len.0; of_owners = c.requires.numbers_len.0 } in
-    let ready : let lo = c.block_start-lo.result in StretchReady c.args.geometry.parameters lo (c.page_behind-stop.result - lo + 1) (lent c.args.separators.now c.args.numbers.now c.args.numbers.now c.args.numbers.now) c.rehome_items.new.1.1.1.0 c.args.waiting.now c.args.waiting.now = let lo = c.block_start-lo.result in let stop = c.page_behind-stop.result in rw (add-one (stop - lo)) (plannable-stretch _ (lent c.args.separators.now c.args.numbers.now c.args.numbers.now c.args.numbers.now) c.requires.homing.valid sized lo (suc (stop - lo)) count (omega arith) _ (c.rehome_items.auto.homes ∙ size) (c.requires.by_index lo (suc (stop - lo)) count) (upto-within _ _ _ lo stop low found.inside c.requires.numbers_len.0 _ _ size (rw (add-one (stop - lo)) at c.rehome_items.ensures)) _ _ c.requires.numbers_len.1 c.requires.numbers_len.1) in
+    let ready : let lo = c.block_start-lo.result in StretchReady c.args.geometry.parameters lo (c.page_behind-stop.result - lo + 1) (lent c.args.separators.now c.args.numbers.now c.args.numbers.now c.args.numbers.now) c.rehome_items.new.homes c.args.waiting.now c.args.waiting.now = let lo = c.block_start-lo.result in let stop = c.page_behind-stop.result in rw (add-one (stop - lo)) (plannable-stretch _ (lent c.args.separators.now c.args.numbers.now c.args.numbers.now c.args.numbers.now) c.requires.homing.valid sized lo (suc (stop - lo)) count (omega arith) _ (c.rehome_items.auto.homes ∙ size) (c.requires.by_index lo (suc (stop - lo)) count) (upto-within _ _ _ lo stop low found.inside c.requires.numbers_len.0 _ _ size (rw (add-one (stop - lo)) at c.rehome_items.ensures)) _ _ c.requires.numbers_len.1 c.requires.numbers_len.1) in
     let L = ready in record {
       parameters_value = c.requires.homing.valid;
       count_nonzero = (L.some, (L.pages_most, omega (arith, L.separators_long, c.requires.step_bound.1, c.requires.pages_in_bounds)));
@@ -103,7 +101,7 @@ returns c =
       last = c.stretch_end-last.result;
       stop = stop;
       block = found;
-      homes = c.rehome_items.new.1.1.1.0;
+      homes = c.rehome_items.new.homes;
       homes-are = rw (add-one (stop - lo)) at c.rehome_items.ensures;
       homes-long = c.rehome_items.auto.homes;
       waiting = _;

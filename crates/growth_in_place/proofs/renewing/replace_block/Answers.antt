@@ -34,8 +34,8 @@ replace_stretch-requires c =
 
 pub returns : goal.returns
 returns c =
-    let left = c.replace_stretch.ensures.1 in
+    let left = c.replace_stretch.ensures in
     record {
-      owners_value = left.0 ∙ block-placed _ _ _ _ _ _ _ c.requires;
-      pool_unchanged = left.1;
+      owners_value = left.owners_value ∙ block-placed _ _ _ _ _ _ _ c.requires;
+      pool_unchanged = left.pool_unchanged;
     }

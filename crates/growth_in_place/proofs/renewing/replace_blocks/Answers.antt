@@ -42,7 +42,7 @@ loop-lo-preserved c =
     let inv = c.loop-lo.invariant in
     let kept = placed.auto in
     renewed_next _ _ _ _ _ c.requires.placeable c.requires.pages_value c.requires.pool_value _ _ _ _ _ inv _ _ c.top_of-top.ensures (omega arith) c.stretch_end-stop.ensures
-    _ _ _ _ placed.ensures.0 placed.ensures.1
+    _ _ _ _ placed.ensures.owners_value placed.ensures.pool_unchanged
     (record {
       of_numbers = kept.pool ∙ inv.pooled.of_numbers;
       of_words_lem = kept.waiting ∙ inv.pooled.of_words_lem;

@@ -43,9 +43,9 @@ returns-then-bad-pages c =
 -- all pages are sound, and the pool holds the homes of their items
 pub grow_in_place-requires : goal.grow_in_place-requires
 grow_in_place-requires c =
-    let pooled : Pooled c.args.geometry.parameters c.survey_pages-bad.last.1.1.1.1.1.1.0 c.args.waiting.now c.args.poolowners.now = let pool = c.requires.pooled in record { of_numbers = c.survey_pages-bad.kept.1.1.1.1.1.1.0 ∙ pool.of_numbers; of_words_lem = pool.of_words_lem; of_owners = pool.of_owners } in
+    let pooled : Pooled c.args.geometry.parameters c.survey_pages-bad.new.homes c.args.waiting.now c.args.poolowners.now = let pool = c.requires.pooled in record { of_numbers = c.survey_pages-bad.auto.homes ∙ pool.of_numbers; of_words_lem = pool.of_words_lem; of_owners = pool.of_owners } in
     let sound : let p = c.args.geometry.parameters in first_unsound_lem p c.args.geometry.growth (lent c.args.separators.now c.args.numbers.now c.args.words.now c.args.owners.now) 0 p.pages ≡ p.pages = surveyed-sound _ _ (lent c.args.separators.now c.args.numbers.now c.args.words.now c.args.owners.now) c.requires.ready.homing.valid c.requires.ready.sized _ c.survey_pages-bad.ensures.value c.if-bad-pages.false in
-    let homed : c.survey_pages-bad.last.1.1.1.1.1.1.0 ≡ homes_of c.args.geometry.parameters c.args.geometry.growth c.args.numbers.now = surveyed-all _ _ (lent c.args.separators.now c.args.numbers.now c.args.words.now c.args.owners.now) c.requires.ready.homing.valid c.requires.ready.sized _ c.survey_pages-bad.ensures.value c.if-bad-pages.false _ _ c.requires.pooled.of_numbers c.survey_pages-bad.ensures.homes_after in
+    let homed : c.survey_pages-bad.new.homes ≡ homes_of c.args.geometry.parameters c.args.geometry.growth c.args.numbers.now = surveyed-all _ _ (lent c.args.separators.now c.args.numbers.now c.args.words.now c.args.owners.now) c.requires.ready.homing.valid c.requires.ready.sized _ c.survey_pages-bad.ensures.value c.if-bad-pages.false _ _ c.requires.pooled.of_numbers c.survey_pages-bad.ensures.homes_after in
     record {
       ready = c.requires.ready;
       pooled = pooled;
@@ -64,16 +64,16 @@ returns-then-grow_in_place c =
 -- not grown in place: all is as it was
 pub replace_all-requires : goal.replace_all-requires
 replace_all-requires c =
-    let pooled : Pooled c.args.geometry.parameters c.survey_pages-bad.last.1.1.1.1.1.1.0 c.args.waiting.now c.args.poolowners.now = let pool = c.requires.pooled in record { of_numbers = c.survey_pages-bad.kept.1.1.1.1.1.1.0 ∙ pool.of_numbers; of_words_lem = pool.of_words_lem; of_owners = pool.of_owners } in
+    let pooled : Pooled c.args.geometry.parameters c.survey_pages-bad.new.homes c.args.waiting.now c.args.poolowners.now = let pool = c.requires.pooled in record { of_numbers = c.survey_pages-bad.auto.homes ∙ pool.of_numbers; of_words_lem = pool.of_words_lem; of_owners = pool.of_owners } in
     let sound : let p = c.args.geometry.parameters in first_unsound_lem p c.args.geometry.growth (lent c.args.separators.now c.args.numbers.now c.args.words.now c.args.owners.now) 0 p.pages ≡ p.pages = surveyed-sound _ _ (lent c.args.separators.now c.args.numbers.now c.args.words.now c.args.owners.now) c.requires.ready.homing.valid c.requires.ready.sized _ c.survey_pages-bad.ensures.value c.if-bad-pages.false in
-    let homed : c.survey_pages-bad.last.1.1.1.1.1.1.0 ≡ homes_of c.args.geometry.parameters c.args.geometry.growth c.args.numbers.now = surveyed-all _ _ (lent c.args.separators.now c.args.numbers.now c.args.words.now c.args.owners.now) c.requires.ready.homing.valid c.requires.ready.sized _ c.survey_pages-bad.ensures.value c.if-bad-pages.false _ _ c.requires.pooled.of_numbers c.survey_pages-bad.ensures.homes_after in
+    let homed : c.survey_pages-bad.new.homes ≡ homes_of c.args.geometry.parameters c.args.geometry.growth c.args.numbers.now = surveyed-all _ _ (lent c.args.separators.now c.args.numbers.now c.args.words.now c.args.owners.now) c.requires.ready.homing.valid c.requires.ready.sized _ c.survey_pages-bad.ensures.value c.if-bad-pages.false _ _ c.requires.pooled.of_numbers c.survey_pages-bad.ensures.homes_after in
     let p = c.args.geometry.parameters in
     let g = c.args.geometry.growth in
     let still = c.grow_in_place.ensures.kept c.if-grow_in_place.false in
-    let lengths = c.grow_in_place.kept.1.1.1.1.1.1 in record {
-      ready = subst (λ (f : File). Ready c.args.geometry c.args.table.now f) (sym still) c.pre.0;
-      pooled = record { of_numbers = lengths.0 ∙ pooled.of_numbers; of_words_lem = lengths.1.0 ∙ pooled.of_words_lem; of_owners = lengths.1.1.0 ∙ pooled.of_owners };
-      movable = c.pre.1.1;
+    let lengths = c.grow_in_place.auto in record {
+      ready = subst (λ (f : File). Ready c.args.geometry c.args.table.now f) (sym still) c.requires.ready;
+      pooled = record { of_numbers = lengths.pool ∙ pooled.of_numbers; of_words_lem = lengths.waiting ∙ pooled.of_words_lem; of_owners = lengths.poolowners ∙ pooled.of_owners };
+      movable = c.requires.movable;
       pages_value = subst (λ (f : File). first_unsound_lem p g f 0 p.pages ≡ p.pages) (sym still) sound;
       pool_value = c.grow_in_place.ensures.pool_kept c.if-grow_in_place.false ∙ homed ∙ ap (λ (f : File). homes_of p g f.numbers) (sym still);
     }

@@ -42,38 +42,21 @@ grown-growth-requires c = record {
 
 pub replace_blocks-requires : goal.replace_blocks-requires
 replace_blocks-requires c =
-    let moved : let exit = c.move_stars.new.1.1.1 in Moved c.args.geometry.parameters c.args.geometry.growth (lent c.args.separators.now c.args.numbers.now c.args.words.now c.args.owners.now) (lent c.args.separators.now exit.0 exit.1.0 exit.1.1.0) exit.1.1.1.0 = c.move_stars.ensures.moved c.if-not-move_stars.false in
+    let moved : let exit = c.move_stars.new in Moved c.args.geometry.parameters c.args.geometry.growth (lent c.args.separators.now c.args.numbers.now c.args.words.now c.args.owners.now) (lent c.args.separators.now exit.numbers exit.words exit.owners) exit.homes = c.move_stars.ensures.moved c.if-not-move_stars.false in
     let m = moved in
     record {
-      placeable = (rw c.grown-growth.ensures (
-        record {
+      placeable = rw c.grown-growth.ensures (record {
           valid = c.requires.ready.homing.valid;
           sized = m.sized;
           pooled = record { of_numbers = c.move_stars.auto.homes ∙ c.requires.pooled.of_numbers; of_words_lem = c.requires.pooled.of_words_lem; of_owners = c.requires.pooled.of_owners };
-        },
-        (m.all_sound_lem, m.homes),
-      )).0;
-      pages_value = (rw c.grown-growth.ensures (
-        record {
-          valid = c.requires.ready.homing.valid;
-          sized = m.sized;
-          pooled = record { of_numbers = c.move_stars.auto.homes ∙ c.requires.pooled.of_numbers; of_words_lem = c.requires.pooled.of_words_lem; of_owners = c.requires.pooled.of_owners };
-        },
-        (m.all_sound_lem, m.homes),
-      )).1.0;
-      pool_value = (rw c.grown-growth.ensures (
-        record {
-          valid = c.requires.ready.homing.valid;
-          sized = m.sized;
-          pooled = record { of_numbers = c.move_stars.auto.homes ∙ c.requires.pooled.of_numbers; of_words_lem = c.requires.pooled.of_words_lem; of_owners = c.requires.pooled.of_owners };
-        },
-        (m.all_sound_lem, m.homes),
-      )).1.1;
+        });
+      pages_value = rw c.grown-growth.ensures (m.all_sound_lem);
+      pool_value = rw c.grown-growth.ensures (m.homes);
     }
 
 pub returns : goal.returns
 returns c =
-    let moved : let exit = c.move_stars.new.1.1.1 in Moved c.args.geometry.parameters c.args.geometry.growth (lent c.args.separators.now c.args.numbers.now c.args.words.now c.args.owners.now) (lent c.args.separators.now exit.0 exit.1.0 exit.1.1.0) exit.1.1.1.0 = c.move_stars.ensures.moved c.if-not-move_stars.false in
+    let moved : let exit = c.move_stars.new in Moved c.args.geometry.parameters c.args.geometry.growth (lent c.args.separators.now c.args.numbers.now c.args.words.now c.args.owners.now) (lent c.args.separators.now exit.numbers exit.words exit.owners) exit.homes = c.move_stars.ensures.moved c.if-not-move_stars.false in
     let renewed = rw c.grown-growth.ensures at c.replace_blocks.ensures in
     record {
       accepts = λ _. grown-answer _ _ _ _ _ _ c.requires.ready.sized c.requires.pages_value moved renewed;

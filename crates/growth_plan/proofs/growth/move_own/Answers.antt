@@ -1,7 +1,6 @@
 -- `growth_plan::growth::move_own` meets its contract.
 use mathlib.Core.Path.{◌≡◌, sym, ap, subst, ◌∙◌}
 use mathlib.Core.Bool.{true}
-use mathlib.Core.List.{List}
 use Prim.Native.Nat.{ℕ, ◌<◌}
 use native.Mathlib.Omega.{arith}
 use Rattle.hashing.specs.declared.Growth.{Growth}
@@ -10,7 +9,6 @@ use Rattle.hashing.specs.Limits.{valid_growth}
 use Rattle.hashing.proofs.Bounds.{limits}
 use Rattle.hashing.proofs.Shrinking.{shrunk-valid, shrunk-below}
 use Rattle.pages.proofs.Parts.{page-fits}
-use Rattle.placement.specs.Rule.{Star}
 use Rattle.placement.specs.File.{File}
 use Rattle.placement.specs.Hash.{lent}
 use Rattle.placement.specs.Shape.{homes_of}
@@ -21,10 +19,7 @@ use Rattle.own_stars.proofs.Laying.{laid-sized}
 use Rattle.growth_plan.specs.Growth.{growth_file}
 use Rattle.growth_plan.proofs.GivenBack.{own_of, clean_laid, own-listed, own-takeable, others-laid, all-entered, back-grown, none-entered, highest-inside}
 use Rattle.growth_plan.proofs.growth.move_own.Goals as goal
-use Rattle.growth_plan.proofs.growth.move_own.Goals.{Start}
 
-abbrev stars : Start → List Star
-stars s = all_stars (par s) (file s)
 
 -- the own stars
 -- taken from their page
@@ -63,90 +58,60 @@ shrunk-growth-requires c = record {
 pub enter_own-entered-requires : goal.enter_own-entered-requires
 enter_own-entered-requires c =
     let found : OwnOf (c.args.geometry.parameters).places (highest (c.args.geometry.parameters) (c.args.geometry.growth)) c.args.numbers.now c.args.words.now c.args.owners.now (homes_of (c.args.geometry.parameters) (c.args.geometry.growth) c.args.numbers.now) (c.find_own-own.result) = own_of _ _ _ _ _ _ _ _ _ c.highest_address-page.ensures c.requires.pool_value c.find_own-own.ensures in
-    let listed : Listed (c.args.geometry.parameters).places (c.find_own-own.result) (stars c) = own-listed (c.args.geometry.parameters) (c.args.geometry.growth) (lent c.args.separators.now c.args.numbers.now c.args.words.now c.args.owners.now) c.requires.ready.homing.valid c.requires.ready.homing.growth c.requires.ready.sized c.requires.pages_value c.requires.simple (c.find_own-own.result) found in
-    let others : LaidOut (c.args.geometry.parameters) (shrunk (c.args.geometry.parameters) (c.args.geometry.growth)) (lent c.take_own.new.1.1.0 c.take_own.new.1.1.1.0 c.take_own.new.1.1.1.1.0 c.take_own.new.1.1.1.1.1.0) (rest_from_lem (c.args.geometry.parameters).places (c.find_own-own.result) (stars c) 0) = others-laid (c.args.geometry.parameters) (c.args.geometry.growth) (lent c.args.separators.now c.args.numbers.now c.args.words.now c.args.owners.now) c.requires.ready.homing.valid c.requires.ready.homing.growth c.requires.ready.sized c.requires.pages_value c.requires.simple (c.find_own-own.result) found c.requires.movable (lent c.take_own.new.1.1.0 c.take_own.new.1.1.1.0 c.take_own.new.1.1.1.1.0 c.take_own.new.1.1.1.1.1.0) (c.take_own.ensures (stars c) listed (clean_laid (c.args.geometry.parameters) (c.args.geometry.growth) (lent c.args.separators.now c.args.numbers.now c.args.words.now c.args.owners.now) c.requires.ready.homing.valid c.requires.ready.homing.growth c.requires.ready.sized c.requires.pages_value c.requires.simple)) in
-    let pooled-taken : Pooled (c.args.geometry.parameters) c.take_own.new.1.1.1.1.1.1.0 c.take_own.new.1.1.1.1.1.1.1.0 c.take_own.new.1.1.1.1.1.1.1.1.0 = let pool = c.requires.pooled in let kept = c.take_own.auto.pool in record { of_numbers = kept.0 ∙ pool.of_numbers; of_words_lem = kept.1.0 ∙ pool.of_words_lem; of_owners = kept.1.1.0 ∙ pool.of_owners } in
+    let listed : Listed (c.args.geometry.parameters).places (c.find_own-own.result) (all_stars c.args.geometry.parameters (lent c.args.separators.now c.args.numbers.now c.args.words.now c.args.owners.now)) = own-listed (c.args.geometry.parameters) (c.args.geometry.growth) (lent c.args.separators.now c.args.numbers.now c.args.words.now c.args.owners.now) c.requires.ready.homing.valid c.requires.ready.homing.growth c.requires.ready.sized c.requires.pages_value c.requires.simple (c.find_own-own.result) found in
+    let others : LaidOut (c.args.geometry.parameters) (shrunk (c.args.geometry.parameters) (c.args.geometry.growth)) (lent c.take_own.new.separators c.take_own.new.numbers c.take_own.new.words c.take_own.new.owners) (rest_from_lem (c.args.geometry.parameters).places (c.find_own-own.result) (all_stars c.args.geometry.parameters (lent c.args.separators.now c.args.numbers.now c.args.words.now c.args.owners.now)) 0) = others-laid (c.args.geometry.parameters) (c.args.geometry.growth) (lent c.args.separators.now c.args.numbers.now c.args.words.now c.args.owners.now) c.requires.ready.homing.valid c.requires.ready.homing.growth c.requires.ready.sized c.requires.pages_value c.requires.simple (c.find_own-own.result) found c.requires.movable (lent c.take_own.new.separators c.take_own.new.numbers c.take_own.new.words c.take_own.new.owners) (c.take_own.ensures (all_stars c.args.geometry.parameters (lent c.args.separators.now c.args.numbers.now c.args.words.now c.args.owners.now)) listed (clean_laid (c.args.geometry.parameters) (c.args.geometry.growth) (lent c.args.separators.now c.args.numbers.now c.args.words.now c.args.owners.now) c.requires.ready.homing.valid c.requires.ready.homing.growth c.requires.ready.sized c.requires.pages_value c.requires.simple)) in
+    let pooled-taken : Pooled (c.args.geometry.parameters) c.take_own.new.pool c.take_own.new.waiting c.take_own.new.poolowners = let pool = c.requires.pooled in let kept = c.take_own.auto in record { of_numbers = kept.pool ∙ pool.of_numbers; of_words_lem = kept.waiting ∙ pool.of_words_lem; of_owners = kept.poolowners ∙ pool.of_owners } in
     let valid-before : valid_growth (c.args.geometry.parameters) (shrunk (c.args.geometry.parameters) (c.args.geometry.growth)) ≡ true = shrunk-valid (c.args.geometry.parameters) (c.args.geometry.growth) c.requires.ready.homing.valid c.requires.movable c.requires.ready.homing.growth in
     record {
-      ready = (rw c.shrunk-growth.ensures (
-        record {
-          homing = record { table = c.pre.0.homing.table; valid = c.pre.0.homing.valid; growth = valid-before };
-          sized = laid-sized _ _ (lent c.take_own.new.1.1.0 c.take_own.new.1.1.1.0 c.take_own.new.1.1.1.1.0 c.take_own.new.1.1.1.1.1.0) _ c.pre.0.homing.valid valid-before others;
-        },
-        (pooled-taken, record { stars = stars c; listed = listed; begun = omega arith; laid_out = others }),
-      )).0;
-      pooled = (rw c.shrunk-growth.ensures (
-        record {
-          homing = record { table = c.pre.0.homing.table; valid = c.pre.0.homing.valid; growth = valid-before };
-          sized = laid-sized _ _ (lent c.take_own.new.1.1.0 c.take_own.new.1.1.1.0 c.take_own.new.1.1.1.1.0 c.take_own.new.1.1.1.1.1.0) _ c.pre.0.homing.valid valid-before others;
-        },
-        (pooled-taken, record { stars = stars c; listed = listed; begun = omega arith; laid_out = others }),
-      )).1.0;
-      entered_below = (rw c.shrunk-growth.ensures (
-        record {
-          homing = record { table = c.pre.0.homing.table; valid = c.pre.0.homing.valid; growth = valid-before };
-          sized = laid-sized _ _ (lent c.take_own.new.1.1.0 c.take_own.new.1.1.1.0 c.take_own.new.1.1.1.1.0 c.take_own.new.1.1.1.1.1.0) _ c.pre.0.homing.valid valid-before others;
-        },
-        (pooled-taken, record { stars = stars c; listed = listed; begun = omega arith; laid_out = others }),
-      )).1.1;
+      ready = rw c.shrunk-growth.ensures (record {
+          homing = record { table = c.requires.ready.homing.table; valid = c.requires.ready.homing.valid; growth = valid-before };
+          sized = laid-sized _ _ (lent c.take_own.new.separators c.take_own.new.numbers c.take_own.new.words c.take_own.new.owners) _ c.requires.ready.homing.valid valid-before others;
+        });
+      pooled = rw c.shrunk-growth.ensures (pooled-taken);
+      entered_below = rw c.shrunk-growth.ensures (record { stars = all_stars c.args.geometry.parameters (lent c.args.separators.now c.args.numbers.now c.args.words.now c.args.owners.now); listed = listed; begun = omega arith; laid_out = others });
     }
 
 pub returns-then-entered-places : goal.returns-then-entered-places
 returns-then-entered-places c =
     let found : OwnOf (c.args.geometry.parameters).places (highest (c.args.geometry.parameters) (c.args.geometry.growth)) c.args.numbers.now c.args.words.now c.args.owners.now (homes_of (c.args.geometry.parameters) (c.args.geometry.growth) c.args.numbers.now) (c.find_own-own.result) = own_of _ _ _ _ _ _ _ _ _ c.highest_address-page.ensures c.requires.pool_value c.find_own-own.ensures in
-    let listed : Listed (c.args.geometry.parameters).places (c.find_own-own.result) (stars c) = own-listed (c.args.geometry.parameters) (c.args.geometry.growth) (lent c.args.separators.now c.args.numbers.now c.args.words.now c.args.owners.now) c.requires.ready.homing.valid c.requires.ready.homing.growth c.requires.ready.sized c.requires.pages_value c.requires.simple (c.find_own-own.result) found in
-    let others : LaidOut (c.args.geometry.parameters) (shrunk (c.args.geometry.parameters) (c.args.geometry.growth)) (lent c.take_own.new.1.1.0 c.take_own.new.1.1.1.0 c.take_own.new.1.1.1.1.0 c.take_own.new.1.1.1.1.1.0) (rest_from_lem (c.args.geometry.parameters).places (c.find_own-own.result) (stars c) 0) = others-laid (c.args.geometry.parameters) (c.args.geometry.growth) (lent c.args.separators.now c.args.numbers.now c.args.words.now c.args.owners.now) c.requires.ready.homing.valid c.requires.ready.homing.growth c.requires.ready.sized c.requires.pages_value c.requires.simple (c.find_own-own.result) found c.requires.movable (lent c.take_own.new.1.1.0 c.take_own.new.1.1.1.0 c.take_own.new.1.1.1.1.0 c.take_own.new.1.1.1.1.1.0) (c.take_own.ensures (stars c) listed (clean_laid (c.args.geometry.parameters) (c.args.geometry.growth) (lent c.args.separators.now c.args.numbers.now c.args.words.now c.args.owners.now) c.requires.ready.homing.valid c.requires.ready.homing.growth c.requires.ready.sized c.requires.pages_value c.requires.simple)) in
-    let some-entered : OwnEntered (c.args.geometry.parameters) (shrunk (c.args.geometry.parameters) (c.args.geometry.growth)) (lent c.enter_own-entered.new.1.1.0 c.enter_own-entered.new.1.1.1.0 c.enter_own-entered.new.1.1.1.1.0 c.enter_own-entered.new.1.1.1.1.1.0) (c.find_own-own.result) (stars c) c.enter_own-entered.result = subst (λ (h : Growth). EntersOwn (c.args.geometry.parameters) h (lent c.take_own.new.1.1.0 c.take_own.new.1.1.1.0 c.take_own.new.1.1.1.1.0 c.take_own.new.1.1.1.1.1.0) (lent c.enter_own-entered.new.1.1.0 c.enter_own-entered.new.1.1.1.0 c.enter_own-entered.new.1.1.1.1.0 c.enter_own-entered.new.1.1.1.1.1.0) (c.find_own-own.result) 0 c.enter_own-entered.result) c.shrunk-growth.ensures c.enter_own-entered.ensures (stars c) listed others in
+    let listed : Listed (c.args.geometry.parameters).places (c.find_own-own.result) (all_stars c.args.geometry.parameters (lent c.args.separators.now c.args.numbers.now c.args.words.now c.args.owners.now)) = own-listed (c.args.geometry.parameters) (c.args.geometry.growth) (lent c.args.separators.now c.args.numbers.now c.args.words.now c.args.owners.now) c.requires.ready.homing.valid c.requires.ready.homing.growth c.requires.ready.sized c.requires.pages_value c.requires.simple (c.find_own-own.result) found in
+    let others : LaidOut (c.args.geometry.parameters) (shrunk (c.args.geometry.parameters) (c.args.geometry.growth)) (lent c.take_own.new.separators c.take_own.new.numbers c.take_own.new.words c.take_own.new.owners) (rest_from_lem (c.args.geometry.parameters).places (c.find_own-own.result) (all_stars c.args.geometry.parameters (lent c.args.separators.now c.args.numbers.now c.args.words.now c.args.owners.now)) 0) = others-laid (c.args.geometry.parameters) (c.args.geometry.growth) (lent c.args.separators.now c.args.numbers.now c.args.words.now c.args.owners.now) c.requires.ready.homing.valid c.requires.ready.homing.growth c.requires.ready.sized c.requires.pages_value c.requires.simple (c.find_own-own.result) found c.requires.movable (lent c.take_own.new.separators c.take_own.new.numbers c.take_own.new.words c.take_own.new.owners) (c.take_own.ensures (all_stars c.args.geometry.parameters (lent c.args.separators.now c.args.numbers.now c.args.words.now c.args.owners.now)) listed (clean_laid (c.args.geometry.parameters) (c.args.geometry.growth) (lent c.args.separators.now c.args.numbers.now c.args.words.now c.args.owners.now) c.requires.ready.homing.valid c.requires.ready.homing.growth c.requires.ready.sized c.requires.pages_value c.requires.simple)) in
+    let some-entered : OwnEntered (c.args.geometry.parameters) (shrunk (c.args.geometry.parameters) (c.args.geometry.growth)) (lent c.enter_own-entered.new.separators c.enter_own-entered.new.numbers c.enter_own-entered.new.words c.enter_own-entered.new.owners) (c.find_own-own.result) (all_stars c.args.geometry.parameters (lent c.args.separators.now c.args.numbers.now c.args.words.now c.args.owners.now)) c.enter_own-entered.result = subst (λ (h : Growth). EntersOwn (c.args.geometry.parameters) h (lent c.take_own.new.separators c.take_own.new.numbers c.take_own.new.words c.take_own.new.owners) (lent c.enter_own-entered.new.separators c.enter_own-entered.new.numbers c.enter_own-entered.new.words c.enter_own-entered.new.owners) (c.find_own-own.result) 0 c.enter_own-entered.result) c.shrunk-growth.ensures c.enter_own-entered.ensures (all_stars c.args.geometry.parameters (lent c.args.separators.now c.args.numbers.now c.args.words.now c.args.owners.now)) listed others in
     all-entered (c.args.geometry.parameters) (c.args.geometry.growth) (lent c.args.separators.now c.args.numbers.now c.args.words.now c.args.owners.now) c.requires.ready.homing.valid c.requires.ready.homing.growth c.requires.ready.sized c.requires.pages_value c.requires.simple (c.find_own-own.result) found c.requires.movable
-    (lent c.enter_own-entered.new.1.1.0 c.enter_own-entered.new.1.1.1.0 c.enter_own-entered.new.1.1.1.1.0 c.enter_own-entered.new.1.1.1.1.1.0) _ some-entered c.if-entered-places.true
+    (lent c.enter_own-entered.new.separators c.enter_own-entered.new.numbers c.enter_own-entered.new.words c.enter_own-entered.new.owners) _ some-entered c.if-entered-places.true
 
 pub grow-requires : goal.grow-requires
 grow-requires c =
     let found : OwnOf (c.args.geometry.parameters).places (highest (c.args.geometry.parameters) (c.args.geometry.growth)) c.args.numbers.now c.args.words.now c.args.owners.now (homes_of (c.args.geometry.parameters) (c.args.geometry.growth) c.args.numbers.now) (c.find_own-own.result) = own_of _ _ _ _ _ _ _ _ _ c.highest_address-page.ensures c.requires.pool_value c.find_own-own.ensures in
-    let listed : Listed (c.args.geometry.parameters).places (c.find_own-own.result) (stars c) = own-listed (c.args.geometry.parameters) (c.args.geometry.growth) (lent c.args.separators.now c.args.numbers.now c.args.words.now c.args.owners.now) c.requires.ready.homing.valid c.requires.ready.homing.growth c.requires.ready.sized c.requires.pages_value c.requires.simple (c.find_own-own.result) found in
-    let others : LaidOut (c.args.geometry.parameters) (shrunk (c.args.geometry.parameters) (c.args.geometry.growth)) (lent c.take_own.new.1.1.0 c.take_own.new.1.1.1.0 c.take_own.new.1.1.1.1.0 c.take_own.new.1.1.1.1.1.0) (rest_from_lem (c.args.geometry.parameters).places (c.find_own-own.result) (stars c) 0) = others-laid (c.args.geometry.parameters) (c.args.geometry.growth) (lent c.args.separators.now c.args.numbers.now c.args.words.now c.args.owners.now) c.requires.ready.homing.valid c.requires.ready.homing.growth c.requires.ready.sized c.requires.pages_value c.requires.simple (c.find_own-own.result) found c.requires.movable (lent c.take_own.new.1.1.0 c.take_own.new.1.1.1.0 c.take_own.new.1.1.1.1.0 c.take_own.new.1.1.1.1.1.0) (c.take_own.ensures (stars c) listed (clean_laid (c.args.geometry.parameters) (c.args.geometry.growth) (lent c.args.separators.now c.args.numbers.now c.args.words.now c.args.owners.now) c.requires.ready.homing.valid c.requires.ready.homing.growth c.requires.ready.sized c.requires.pages_value c.requires.simple)) in
-    let some-entered : OwnEntered (c.args.geometry.parameters) (shrunk (c.args.geometry.parameters) (c.args.geometry.growth)) (lent c.enter_own-entered.new.1.1.0 c.enter_own-entered.new.1.1.1.0 c.enter_own-entered.new.1.1.1.1.0 c.enter_own-entered.new.1.1.1.1.1.0) (c.find_own-own.result) (stars c) c.enter_own-entered.result = subst (λ (h : Growth). EntersOwn (c.args.geometry.parameters) h (lent c.take_own.new.1.1.0 c.take_own.new.1.1.1.0 c.take_own.new.1.1.1.1.0 c.take_own.new.1.1.1.1.1.0) (lent c.enter_own-entered.new.1.1.0 c.enter_own-entered.new.1.1.1.0 c.enter_own-entered.new.1.1.1.1.0 c.enter_own-entered.new.1.1.1.1.1.0) (c.find_own-own.result) 0 c.enter_own-entered.result) c.shrunk-growth.ensures c.enter_own-entered.ensures (stars c) listed others in
-    let pooled-taken : Pooled (c.args.geometry.parameters) c.take_own.new.1.1.1.1.1.1.0 c.take_own.new.1.1.1.1.1.1.1.0 c.take_own.new.1.1.1.1.1.1.1.1.0 = let pool = c.requires.pooled in let kept = c.take_own.auto.pool in record { of_numbers = kept.0 ∙ pool.of_numbers; of_words_lem = kept.1.0 ∙ pool.of_words_lem; of_owners = kept.1.1.0 ∙ pool.of_owners } in
-    let pooled-entered : Pooled (c.args.geometry.parameters) c.enter_own-entered.new.1.1.1.1.1.1.0 c.enter_own-entered.new.1.1.1.1.1.1.1.0 c.enter_own-entered.new.1.1.1.1.1.1.1.1.0 = let pool = pooled-taken in let kept = c.enter_own-entered.auto.pool in record { of_numbers = kept.0 ∙ pool.of_numbers; of_words_lem = kept.1.0 ∙ pool.of_words_lem; of_owners = kept.1.1.0 ∙ pool.of_owners } in
+    let listed : Listed (c.args.geometry.parameters).places (c.find_own-own.result) (all_stars c.args.geometry.parameters (lent c.args.separators.now c.args.numbers.now c.args.words.now c.args.owners.now)) = own-listed (c.args.geometry.parameters) (c.args.geometry.growth) (lent c.args.separators.now c.args.numbers.now c.args.words.now c.args.owners.now) c.requires.ready.homing.valid c.requires.ready.homing.growth c.requires.ready.sized c.requires.pages_value c.requires.simple (c.find_own-own.result) found in
+    let others : LaidOut (c.args.geometry.parameters) (shrunk (c.args.geometry.parameters) (c.args.geometry.growth)) (lent c.take_own.new.separators c.take_own.new.numbers c.take_own.new.words c.take_own.new.owners) (rest_from_lem (c.args.geometry.parameters).places (c.find_own-own.result) (all_stars c.args.geometry.parameters (lent c.args.separators.now c.args.numbers.now c.args.words.now c.args.owners.now)) 0) = others-laid (c.args.geometry.parameters) (c.args.geometry.growth) (lent c.args.separators.now c.args.numbers.now c.args.words.now c.args.owners.now) c.requires.ready.homing.valid c.requires.ready.homing.growth c.requires.ready.sized c.requires.pages_value c.requires.simple (c.find_own-own.result) found c.requires.movable (lent c.take_own.new.separators c.take_own.new.numbers c.take_own.new.words c.take_own.new.owners) (c.take_own.ensures (all_stars c.args.geometry.parameters (lent c.args.separators.now c.args.numbers.now c.args.words.now c.args.owners.now)) listed (clean_laid (c.args.geometry.parameters) (c.args.geometry.growth) (lent c.args.separators.now c.args.numbers.now c.args.words.now c.args.owners.now) c.requires.ready.homing.valid c.requires.ready.homing.growth c.requires.ready.sized c.requires.pages_value c.requires.simple)) in
+    let some-entered : OwnEntered (c.args.geometry.parameters) (shrunk (c.args.geometry.parameters) (c.args.geometry.growth)) (lent c.enter_own-entered.new.separators c.enter_own-entered.new.numbers c.enter_own-entered.new.words c.enter_own-entered.new.owners) (c.find_own-own.result) (all_stars c.args.geometry.parameters (lent c.args.separators.now c.args.numbers.now c.args.words.now c.args.owners.now)) c.enter_own-entered.result = subst (λ (h : Growth). EntersOwn (c.args.geometry.parameters) h (lent c.take_own.new.separators c.take_own.new.numbers c.take_own.new.words c.take_own.new.owners) (lent c.enter_own-entered.new.separators c.enter_own-entered.new.numbers c.enter_own-entered.new.words c.enter_own-entered.new.owners) (c.find_own-own.result) 0 c.enter_own-entered.result) c.shrunk-growth.ensures c.enter_own-entered.ensures (all_stars c.args.geometry.parameters (lent c.args.separators.now c.args.numbers.now c.args.words.now c.args.owners.now)) listed others in
+    let pooled-taken : Pooled (c.args.geometry.parameters) c.take_own.new.pool c.take_own.new.waiting c.take_own.new.poolowners = let pool = c.requires.pooled in let kept = c.take_own.auto in record { of_numbers = kept.pool ∙ pool.of_numbers; of_words_lem = kept.waiting ∙ pool.of_words_lem; of_owners = kept.poolowners ∙ pool.of_owners } in
+    let pooled-entered : Pooled (c.args.geometry.parameters) c.enter_own-entered.new.pool c.enter_own-entered.new.waiting c.enter_own-entered.new.poolowners = let pool = pooled-taken in let kept = c.enter_own-entered.auto in record { of_numbers = kept.pool ∙ pool.of_numbers; of_words_lem = kept.waiting ∙ pool.of_words_lem; of_owners = kept.poolowners ∙ pool.of_owners } in
     let valid-before : valid_growth (c.args.geometry.parameters) (shrunk (c.args.geometry.parameters) (c.args.geometry.growth)) ≡ true = shrunk-valid (c.args.geometry.parameters) (c.args.geometry.growth) c.requires.ready.homing.valid c.requires.movable c.requires.ready.homing.growth in
     record {
-      ready = (rw c.shrunk-growth.ensures (
-        record {
+      ready = rw c.shrunk-growth.ensures (record {
           homing = record { table = c.requires.ready.homing.table; valid = c.requires.ready.homing.valid; growth = valid-before };
-          sized = laid-sized _ _ (lent c.enter_own-entered.new.1.1.0 c.enter_own-entered.new.1.1.1.0 c.enter_own-entered.new.1.1.1.1.0 c.enter_own-entered.new.1.1.1.1.1.0) _ c.requires.ready.homing.valid valid-before some-entered.laid_out;
-        },
-        (pooled-entered, shrunk-below (c.args.geometry.parameters) (c.args.geometry.growth) c.requires.ready.homing.valid c.requires.movable c.requires.ready.homing.growth),
-      )).0;
-      pooled = (rw c.shrunk-growth.ensures (
-        record {
-          homing = record { table = c.requires.ready.homing.table; valid = c.requires.ready.homing.valid; growth = valid-before };
-          sized = laid-sized _ _ (lent c.enter_own-entered.new.1.1.0 c.enter_own-entered.new.1.1.1.0 c.enter_own-entered.new.1.1.1.1.0 c.enter_own-entered.new.1.1.1.1.1.0) _ c.requires.ready.homing.valid valid-before some-entered.laid_out;
-        },
-        (pooled-entered, shrunk-below (c.args.geometry.parameters) (c.args.geometry.growth) c.requires.ready.homing.valid c.requires.movable c.requires.ready.homing.growth),
-      )).1.0;
-      movable = (rw c.shrunk-growth.ensures (
-        record {
-          homing = record { table = c.requires.ready.homing.table; valid = c.requires.ready.homing.valid; growth = valid-before };
-          sized = laid-sized _ _ (lent c.enter_own-entered.new.1.1.0 c.enter_own-entered.new.1.1.1.0 c.enter_own-entered.new.1.1.1.1.0 c.enter_own-entered.new.1.1.1.1.1.0) _ c.requires.ready.homing.valid valid-before some-entered.laid_out;
-        },
-        (pooled-entered, shrunk-below (c.args.geometry.parameters) (c.args.geometry.growth) c.requires.ready.homing.valid c.requires.movable c.requires.ready.homing.growth),
-      )).1.1;
+          sized = laid-sized _ _ (lent c.enter_own-entered.new.separators c.enter_own-entered.new.numbers c.enter_own-entered.new.words c.enter_own-entered.new.owners) _ c.requires.ready.homing.valid valid-before some-entered.laid_out;
+        });
+      pooled = rw c.shrunk-growth.ensures (pooled-entered);
+      movable = rw c.shrunk-growth.ensures (shrunk-below (c.args.geometry.parameters) (c.args.geometry.growth) c.requires.ready.homing.valid c.requires.movable c.requires.ready.homing.growth);
     }
 
 pub enter_own-requires : goal.enter_own-requires
 enter_own-requires c =
-    let pooled-taken : Pooled (c.args.geometry.parameters) c.take_own.new.1.1.1.1.1.1.0 c.take_own.new.1.1.1.1.1.1.1.0 c.take_own.new.1.1.1.1.1.1.1.1.0 = let pool = c.requires.pooled in let kept = c.take_own.auto.pool in record { of_numbers = kept.0 ∙ pool.of_numbers; of_words_lem = kept.1.0 ∙ pool.of_words_lem; of_owners = kept.1.1.0 ∙ pool.of_owners } in
-    let pooled-entered : Pooled (c.args.geometry.parameters) c.enter_own-entered.new.1.1.1.1.1.1.0 c.enter_own-entered.new.1.1.1.1.1.1.1.0 c.enter_own-entered.new.1.1.1.1.1.1.1.1.0 = let pool = pooled-taken in let kept = c.enter_own-entered.auto.pool in record { of_numbers = kept.0 ∙ pool.of_numbers; of_words_lem = kept.1.0 ∙ pool.of_words_lem; of_owners = kept.1.1.0 ∙ pool.of_owners } in
+    let pooled-taken : Pooled (c.args.geometry.parameters) c.take_own.new.pool c.take_own.new.waiting c.take_own.new.poolowners = let pool = c.requires.pooled in let kept = c.take_own.auto in record { of_numbers = kept.pool ∙ pool.of_numbers; of_words_lem = kept.waiting ∙ pool.of_words_lem; of_owners = kept.poolowners ∙ pool.of_owners } in
+    let pooled-entered : Pooled (c.args.geometry.parameters) c.enter_own-entered.new.pool c.enter_own-entered.new.waiting c.enter_own-entered.new.poolowners = let pool = pooled-taken in let kept = c.enter_own-entered.auto in record { of_numbers = kept.pool ∙ pool.of_numbers; of_words_lem = kept.waiting ∙ pool.of_words_lem; of_owners = kept.poolowners ∙ pool.of_owners } in
     let found : OwnOf (c.args.geometry.parameters).places (highest (c.args.geometry.parameters) (c.args.geometry.growth)) c.args.numbers.now c.args.words.now c.args.owners.now (homes_of (c.args.geometry.parameters) (c.args.geometry.growth) c.args.numbers.now) (c.find_own-own.result) = own_of _ _ _ _ _ _ _ _ _ c.highest_address-page.ensures c.requires.pool_value c.find_own-own.ensures in
-    let listed : Listed (c.args.geometry.parameters).places (c.find_own-own.result) (stars c) = own-listed (c.args.geometry.parameters) (c.args.geometry.growth) (lent c.args.separators.now c.args.numbers.now c.args.words.now c.args.owners.now) c.requires.ready.homing.valid c.requires.ready.homing.growth c.requires.ready.sized c.requires.pages_value c.requires.simple (c.find_own-own.result) found in
-    let others : LaidOut (c.args.geometry.parameters) (shrunk (c.args.geometry.parameters) (c.args.geometry.growth)) (lent c.take_own.new.1.1.0 c.take_own.new.1.1.1.0 c.take_own.new.1.1.1.1.0 c.take_own.new.1.1.1.1.1.0) (rest_from_lem (c.args.geometry.parameters).places (c.find_own-own.result) (stars c) 0) = others-laid (c.args.geometry.parameters) (c.args.geometry.growth) (lent c.args.separators.now c.args.numbers.now c.args.words.now c.args.owners.now) c.requires.ready.homing.valid c.requires.ready.homing.growth c.requires.ready.sized c.requires.pages_value c.requires.simple (c.find_own-own.result) found c.requires.movable (lent c.take_own.new.1.1.0 c.take_own.new.1.1.1.0 c.take_own.new.1.1.1.1.0 c.take_own.new.1.1.1.1.1.0) (c.take_own.ensures (stars c) listed (clean_laid (c.args.geometry.parameters) (c.args.geometry.growth) (lent c.args.separators.now c.args.numbers.now c.args.words.now c.args.owners.now) c.requires.ready.homing.valid c.requires.ready.homing.growth c.requires.ready.sized c.requires.pages_value c.requires.simple)) in
-    let some-entered : OwnEntered (c.args.geometry.parameters) (shrunk (c.args.geometry.parameters) (c.args.geometry.growth)) (lent c.enter_own-entered.new.1.1.0 c.enter_own-entered.new.1.1.1.0 c.enter_own-entered.new.1.1.1.1.0 c.enter_own-entered.new.1.1.1.1.1.0) (c.find_own-own.result) (stars c) c.enter_own-entered.result = subst (λ (h : Growth). EntersOwn (c.args.geometry.parameters) h (lent c.take_own.new.1.1.0 c.take_own.new.1.1.1.0 c.take_own.new.1.1.1.1.0 c.take_own.new.1.1.1.1.1.0) (lent c.enter_own-entered.new.1.1.0 c.enter_own-entered.new.1.1.1.0 c.enter_own-entered.new.1.1.1.1.0 c.enter_own-entered.new.1.1.1.1.1.0) (c.find_own-own.result) 0 c.enter_own-entered.result) c.shrunk-growth.ensures c.enter_own-entered.ensures (stars c) listed others in
-    let laid-again : LaidOut (c.args.geometry.parameters) (c.args.geometry.growth) (lent c.grow.new.1.1.0 c.grow.new.1.1.1.0 c.grow.new.1.1.1.1.0 c.grow.new.1.1.1.1.1.0) (rest_from_lem (c.args.geometry.parameters).places (c.find_own-own.result) (stars c) c.enter_own-entered.result) = subst (λ (f : File). LaidOut (c.args.geometry.parameters) (c.args.geometry.growth) f (rest_from_lem (c.args.geometry.parameters).places (c.find_own-own.result) (stars c) c.enter_own-entered.result)) (ap (λ (h : Growth). growth_file (c.args.geometry.parameters) h (lent c.enter_own-entered.new.1.1.0 c.enter_own-entered.new.1.1.1.0 c.enter_own-entered.new.1.1.1.1.0 c.enter_own-entered.new.1.1.1.1.1.0) (grown (c.args.geometry.parameters) h)) (sym c.shrunk-growth.ensures) ∙ sym c.grow.ensures.owners_value) (back-grown (c.args.geometry.parameters) (c.args.geometry.growth) (lent c.args.separators.now c.args.numbers.now c.args.words.now c.args.owners.now) c.requires.ready.homing.valid c.requires.ready.homing.growth c.requires.ready.sized c.requires.pages_value c.requires.simple (c.find_own-own.result) found c.requires.movable (lent c.enter_own-entered.new.1.1.0 c.enter_own-entered.new.1.1.1.0 c.enter_own-entered.new.1.1.1.1.0 c.enter_own-entered.new.1.1.1.1.1.0) _ some-entered) in
-    let begun-again : EnteredBelow (c.args.geometry.parameters) (c.args.geometry.growth) (lent c.grow.new.1.1.0 c.grow.new.1.1.1.0 c.grow.new.1.1.1.1.0 c.grow.new.1.1.1.1.1.0) (c.find_own-own.result) c.enter_own-entered.result = record { stars = stars c; listed = listed; begun = some-entered.most; laid_out = laid-again } in
+    let listed : Listed (c.args.geometry.parameters).places (c.find_own-own.result) (all_stars c.args.geometry.parameters (lent c.args.separators.now c.args.numbers.now c.args.words.now c.args.owners.now)) = own-listed (c.args.geometry.parameters) (c.args.geometry.growth) (lent c.args.separators.now c.args.numbers.now c.args.words.now c.args.owners.now) c.requires.ready.homing.valid c.requires.ready.homing.growth c.requires.ready.sized c.requires.pages_value c.requires.simple (c.find_own-own.result) found in
+    let others : LaidOut (c.args.geometry.parameters) (shrunk (c.args.geometry.parameters) (c.args.geometry.growth)) (lent c.take_own.new.separators c.take_own.new.numbers c.take_own.new.words c.take_own.new.owners) (rest_from_lem (c.args.geometry.parameters).places (c.find_own-own.result) (all_stars c.args.geometry.parameters (lent c.args.separators.now c.args.numbers.now c.args.words.now c.args.owners.now)) 0) = others-laid (c.args.geometry.parameters) (c.args.geometry.growth) (lent c.args.separators.now c.args.numbers.now c.args.words.now c.args.owners.now) c.requires.ready.homing.valid c.requires.ready.homing.growth c.requires.ready.sized c.requires.pages_value c.requires.simple (c.find_own-own.result) found c.requires.movable (lent c.take_own.new.separators c.take_own.new.numbers c.take_own.new.words c.take_own.new.owners) (c.take_own.ensures (all_stars c.args.geometry.parameters (lent c.args.separators.now c.args.numbers.now c.args.words.now c.args.owners.now)) listed (clean_laid (c.args.geometry.parameters) (c.args.geometry.growth) (lent c.args.separators.now c.args.numbers.now c.args.words.now c.args.owners.now) c.requires.ready.homing.valid c.requires.ready.homing.growth c.requires.ready.sized c.requires.pages_value c.requires.simple)) in
+    let some-entered : OwnEntered (c.args.geometry.parameters) (shrunk (c.args.geometry.parameters) (c.args.geometry.growth)) (lent c.enter_own-entered.new.separators c.enter_own-entered.new.numbers c.enter_own-entered.new.words c.enter_own-entered.new.owners) (c.find_own-own.result) (all_stars c.args.geometry.parameters (lent c.args.separators.now c.args.numbers.now c.args.words.now c.args.owners.now)) c.enter_own-entered.result = subst (λ (h : Growth). EntersOwn (c.args.geometry.parameters) h (lent c.take_own.new.separators c.take_own.new.numbers c.take_own.new.words c.take_own.new.owners) (lent c.enter_own-entered.new.separators c.enter_own-entered.new.numbers c.enter_own-entered.new.words c.enter_own-entered.new.owners) (c.find_own-own.result) 0 c.enter_own-entered.result) c.shrunk-growth.ensures c.enter_own-entered.ensures (all_stars c.args.geometry.parameters (lent c.args.separators.now c.args.numbers.now c.args.words.now c.args.owners.now)) listed others in
+    let laid-again : LaidOut (c.args.geometry.parameters) (c.args.geometry.growth) (lent c.grow.new.separators c.grow.new.numbers c.grow.new.words c.grow.new.owners) (rest_from_lem (c.args.geometry.parameters).places (c.find_own-own.result) (all_stars c.args.geometry.parameters (lent c.args.separators.now c.args.numbers.now c.args.words.now c.args.owners.now)) c.enter_own-entered.result) = subst (λ (f : File). LaidOut (c.args.geometry.parameters) (c.args.geometry.growth) f (rest_from_lem (c.args.geometry.parameters).places (c.find_own-own.result) (all_stars c.args.geometry.parameters (lent c.args.separators.now c.args.numbers.now c.args.words.now c.args.owners.now)) c.enter_own-entered.result)) (ap (λ (h : Growth). growth_file (c.args.geometry.parameters) h (lent c.enter_own-entered.new.separators c.enter_own-entered.new.numbers c.enter_own-entered.new.words c.enter_own-entered.new.owners) (grown (c.args.geometry.parameters) h)) (sym c.shrunk-growth.ensures) ∙ sym c.grow.ensures.owners_value) (back-grown (c.args.geometry.parameters) (c.args.geometry.growth) (lent c.args.separators.now c.args.numbers.now c.args.words.now c.args.owners.now) c.requires.ready.homing.valid c.requires.ready.homing.growth c.requires.ready.sized c.requires.pages_value c.requires.simple (c.find_own-own.result) found c.requires.movable (lent c.enter_own-entered.new.separators c.enter_own-entered.new.numbers c.enter_own-entered.new.words c.enter_own-entered.new.owners) _ some-entered) in
+    let begun-again : EnteredBelow (c.args.geometry.parameters) (c.args.geometry.growth) (lent c.grow.new.separators c.grow.new.numbers c.grow.new.words c.grow.new.owners) (c.find_own-own.result) c.enter_own-entered.result = record { stars = all_stars c.args.geometry.parameters (lent c.args.separators.now c.args.numbers.now c.args.words.now c.args.owners.now); listed = listed; begun = some-entered.most; laid_out = laid-again } in
     let pool = pooled-entered in
-    let kept = c.grow.auto.pool in record {
-      ready = record { homing = c.requires.ready.homing; sized = laid-sized _ _ (lent c.grow.new.1.1.0 c.grow.new.1.1.1.0 c.grow.new.1.1.1.1.0 c.grow.new.1.1.1.1.1.0) _ c.requires.ready.homing.valid c.requires.ready.homing.growth laid-again };
-      pooled = record { of_numbers = kept.0 ∙ pool.of_numbers; of_words_lem = kept.1.0 ∙ pool.of_words_lem; of_owners = kept.1.1.0 ∙ pool.of_owners };
+    let kept = c.grow.auto in record {
+      ready = record { homing = c.requires.ready.homing; sized = laid-sized _ _ (lent c.grow.new.separators c.grow.new.numbers c.grow.new.words c.grow.new.owners) _ c.requires.ready.homing.valid c.requires.ready.homing.growth laid-again };
+      pooled = record { of_numbers = kept.pool ∙ pool.of_numbers; of_words_lem = kept.waiting ∙ pool.of_words_lem; of_owners = kept.poolowners ∙ pool.of_owners };
       entered_below = begun-again;
     }
 
@@ -174,10 +139,10 @@ shape_of-poolowners c = c.enter_own.auto.poolowners ∙ c.grow.auto.poolowners �
 pub returns : goal.returns
 returns c =
     let found : OwnOf (c.args.geometry.parameters).places (highest (c.args.geometry.parameters) (c.args.geometry.growth)) c.args.numbers.now c.args.words.now c.args.owners.now (homes_of (c.args.geometry.parameters) (c.args.geometry.growth) c.args.numbers.now) (c.find_own-own.result) = own_of _ _ _ _ _ _ _ _ _ c.highest_address-page.ensures c.requires.pool_value c.find_own-own.ensures in
-    let listed : Listed (c.args.geometry.parameters).places (c.find_own-own.result) (stars c) = own-listed (c.args.geometry.parameters) (c.args.geometry.growth) (lent c.args.separators.now c.args.numbers.now c.args.words.now c.args.owners.now) c.requires.ready.homing.valid c.requires.ready.homing.growth c.requires.ready.sized c.requires.pages_value c.requires.simple (c.find_own-own.result) found in
-    let others : LaidOut (c.args.geometry.parameters) (shrunk (c.args.geometry.parameters) (c.args.geometry.growth)) (lent c.take_own.new.1.1.0 c.take_own.new.1.1.1.0 c.take_own.new.1.1.1.1.0 c.take_own.new.1.1.1.1.1.0) (rest_from_lem (c.args.geometry.parameters).places (c.find_own-own.result) (stars c) 0) = others-laid (c.args.geometry.parameters) (c.args.geometry.growth) (lent c.args.separators.now c.args.numbers.now c.args.words.now c.args.owners.now) c.requires.ready.homing.valid c.requires.ready.homing.growth c.requires.ready.sized c.requires.pages_value c.requires.simple (c.find_own-own.result) found c.requires.movable (lent c.take_own.new.1.1.0 c.take_own.new.1.1.1.0 c.take_own.new.1.1.1.1.0 c.take_own.new.1.1.1.1.1.0) (c.take_own.ensures (stars c) listed (clean_laid (c.args.geometry.parameters) (c.args.geometry.growth) (lent c.args.separators.now c.args.numbers.now c.args.words.now c.args.owners.now) c.requires.ready.homing.valid c.requires.ready.homing.growth c.requires.ready.sized c.requires.pages_value c.requires.simple)) in
-    let some-entered : OwnEntered (c.args.geometry.parameters) (shrunk (c.args.geometry.parameters) (c.args.geometry.growth)) (lent c.enter_own-entered.new.1.1.0 c.enter_own-entered.new.1.1.1.0 c.enter_own-entered.new.1.1.1.1.0 c.enter_own-entered.new.1.1.1.1.1.0) (c.find_own-own.result) (stars c) c.enter_own-entered.result = subst (λ (h : Growth). EntersOwn (c.args.geometry.parameters) h (lent c.take_own.new.1.1.0 c.take_own.new.1.1.1.0 c.take_own.new.1.1.1.1.0 c.take_own.new.1.1.1.1.1.0) (lent c.enter_own-entered.new.1.1.0 c.enter_own-entered.new.1.1.1.0 c.enter_own-entered.new.1.1.1.1.0 c.enter_own-entered.new.1.1.1.1.1.0) (c.find_own-own.result) 0 c.enter_own-entered.result) c.shrunk-growth.ensures c.enter_own-entered.ensures (stars c) listed others in
-    let laid-again : LaidOut (c.args.geometry.parameters) (c.args.geometry.growth) (lent c.grow.new.1.1.0 c.grow.new.1.1.1.0 c.grow.new.1.1.1.1.0 c.grow.new.1.1.1.1.1.0) (rest_from_lem (c.args.geometry.parameters).places (c.find_own-own.result) (stars c) c.enter_own-entered.result) = subst (λ (f : File). LaidOut (c.args.geometry.parameters) (c.args.geometry.growth) f (rest_from_lem (c.args.geometry.parameters).places (c.find_own-own.result) (stars c) c.enter_own-entered.result)) (ap (λ (h : Growth). growth_file (c.args.geometry.parameters) h (lent c.enter_own-entered.new.1.1.0 c.enter_own-entered.new.1.1.1.0 c.enter_own-entered.new.1.1.1.1.0 c.enter_own-entered.new.1.1.1.1.1.0) (grown (c.args.geometry.parameters) h)) (sym c.shrunk-growth.ensures) ∙ sym c.grow.ensures.owners_value) (back-grown (c.args.geometry.parameters) (c.args.geometry.growth) (lent c.args.separators.now c.args.numbers.now c.args.words.now c.args.owners.now) c.requires.ready.homing.valid c.requires.ready.homing.growth c.requires.ready.sized c.requires.pages_value c.requires.simple (c.find_own-own.result) found c.requires.movable (lent c.enter_own-entered.new.1.1.0 c.enter_own-entered.new.1.1.1.0 c.enter_own-entered.new.1.1.1.1.0 c.enter_own-entered.new.1.1.1.1.1.0) _ some-entered) in
+    let listed : Listed (c.args.geometry.parameters).places (c.find_own-own.result) (all_stars c.args.geometry.parameters (lent c.args.separators.now c.args.numbers.now c.args.words.now c.args.owners.now)) = own-listed (c.args.geometry.parameters) (c.args.geometry.growth) (lent c.args.separators.now c.args.numbers.now c.args.words.now c.args.owners.now) c.requires.ready.homing.valid c.requires.ready.homing.growth c.requires.ready.sized c.requires.pages_value c.requires.simple (c.find_own-own.result) found in
+    let others : LaidOut (c.args.geometry.parameters) (shrunk (c.args.geometry.parameters) (c.args.geometry.growth)) (lent c.take_own.new.separators c.take_own.new.numbers c.take_own.new.words c.take_own.new.owners) (rest_from_lem (c.args.geometry.parameters).places (c.find_own-own.result) (all_stars c.args.geometry.parameters (lent c.args.separators.now c.args.numbers.now c.args.words.now c.args.owners.now)) 0) = others-laid (c.args.geometry.parameters) (c.args.geometry.growth) (lent c.args.separators.now c.args.numbers.now c.args.words.now c.args.owners.now) c.requires.ready.homing.valid c.requires.ready.homing.growth c.requires.ready.sized c.requires.pages_value c.requires.simple (c.find_own-own.result) found c.requires.movable (lent c.take_own.new.separators c.take_own.new.numbers c.take_own.new.words c.take_own.new.owners) (c.take_own.ensures (all_stars c.args.geometry.parameters (lent c.args.separators.now c.args.numbers.now c.args.words.now c.args.owners.now)) listed (clean_laid (c.args.geometry.parameters) (c.args.geometry.growth) (lent c.args.separators.now c.args.numbers.now c.args.words.now c.args.owners.now) c.requires.ready.homing.valid c.requires.ready.homing.growth c.requires.ready.sized c.requires.pages_value c.requires.simple)) in
+    let some-entered : OwnEntered (c.args.geometry.parameters) (shrunk (c.args.geometry.parameters) (c.args.geometry.growth)) (lent c.enter_own-entered.new.separators c.enter_own-entered.new.numbers c.enter_own-entered.new.words c.enter_own-entered.new.owners) (c.find_own-own.result) (all_stars c.args.geometry.parameters (lent c.args.separators.now c.args.numbers.now c.args.words.now c.args.owners.now)) c.enter_own-entered.result = subst (λ (h : Growth). EntersOwn (c.args.geometry.parameters) h (lent c.take_own.new.separators c.take_own.new.numbers c.take_own.new.words c.take_own.new.owners) (lent c.enter_own-entered.new.separators c.enter_own-entered.new.numbers c.enter_own-entered.new.words c.enter_own-entered.new.owners) (c.find_own-own.result) 0 c.enter_own-entered.result) c.shrunk-growth.ensures c.enter_own-entered.ensures (all_stars c.args.geometry.parameters (lent c.args.separators.now c.args.numbers.now c.args.words.now c.args.owners.now)) listed others in
+    let laid-again : LaidOut (c.args.geometry.parameters) (c.args.geometry.growth) (lent c.grow.new.separators c.grow.new.numbers c.grow.new.words c.grow.new.owners) (rest_from_lem (c.args.geometry.parameters).places (c.find_own-own.result) (all_stars c.args.geometry.parameters (lent c.args.separators.now c.args.numbers.now c.args.words.now c.args.owners.now)) c.enter_own-entered.result) = subst (λ (f : File). LaidOut (c.args.geometry.parameters) (c.args.geometry.growth) f (rest_from_lem (c.args.geometry.parameters).places (c.find_own-own.result) (all_stars c.args.geometry.parameters (lent c.args.separators.now c.args.numbers.now c.args.words.now c.args.owners.now)) c.enter_own-entered.result)) (ap (λ (h : Growth). growth_file (c.args.geometry.parameters) h (lent c.enter_own-entered.new.separators c.enter_own-entered.new.numbers c.enter_own-entered.new.words c.enter_own-entered.new.owners) (grown (c.args.geometry.parameters) h)) (sym c.shrunk-growth.ensures) ∙ sym c.grow.ensures.owners_value) (back-grown (c.args.geometry.parameters) (c.args.geometry.growth) (lent c.args.separators.now c.args.numbers.now c.args.words.now c.args.owners.now) c.requires.ready.homing.valid c.requires.ready.homing.growth c.requires.ready.sized c.requires.pages_value c.requires.simple (c.find_own-own.result) found c.requires.movable (lent c.enter_own-entered.new.separators c.enter_own-entered.new.numbers c.enter_own-entered.new.words c.enter_own-entered.new.owners) _ some-entered) in
     none-entered (c.args.geometry.parameters) (c.args.geometry.growth) (lent c.args.separators.now c.args.numbers.now c.args.words.now c.args.owners.now) c.requires.ready.homing.valid c.requires.ready.homing.growth c.requires.ready.sized c.requires.pages_value c.requires.simple (c.find_own-own.result) found c.requires.movable
-    (lent c.enter_own-entered.new.1.1.0 c.enter_own-entered.new.1.1.1.0 c.enter_own-entered.new.1.1.1.1.0 c.enter_own-entered.new.1.1.1.1.1.0) _ _ _ some-entered c.if-entered-places.false
-    (c.enter_own.ensures (stars c) listed laid-again)
+    (lent c.enter_own-entered.new.separators c.enter_own-entered.new.numbers c.enter_own-entered.new.words c.enter_own-entered.new.owners) _ _ _ some-entered c.if-entered-places.false
+    (c.enter_own.ensures (all_stars c.args.geometry.parameters (lent c.args.separators.now c.args.numbers.now c.args.words.now c.args.owners.now)) listed laid-again)

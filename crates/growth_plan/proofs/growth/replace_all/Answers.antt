@@ -44,11 +44,11 @@ pub apply-requires : goal.apply-requires
 apply-requires c =
     let most : c.args.geometry.parameters.pages ≤ 1024 = (limits _ c.requires.ready.homing.valid).pages_most in
     let z = c.requires.ready.sized in
-    let kept = c.plan_all.kept.1.1.1.1 in record {
+    let kept = c.plan_all.auto in record {
       places_bound = ((limits _ c.requires.ready.homing.valid).places_most, omega (arith, most));
-      count_in_bounds = (omega (arith, z.of_separators), omega (arith, most, kept.1.1.0));
+      count_in_bounds = (omega (arith, z.of_separators), omega (arith, most, kept.planned));
       places_in_bounds = (span _ _ _ z.of_numbers, span _ _ _ z.of_words_lem);
-      places_in_bounds_2 = (span _ _ _ (kept.0 ∙ c.requires.pooled.of_numbers), span _ _ _ (kept.1.0 ∙ c.requires.pooled.of_words_lem));
+      places_in_bounds_2 = (span _ _ _ (kept.pool ∙ c.requires.pooled.of_numbers), span _ _ _ (kept.waiting ∙ c.requires.pooled.of_words_lem));
       places_in_bounds_3 = (span _ _ _ z.of_owners, span _ _ _ c.requires.pooled.of_owners);
     }
 
@@ -59,7 +59,7 @@ pub returns : goal.returns
 returns c =
     let later : let p = c.args.geometry.parameters in valid_growth p (state_after c.args.back p c.args.geometry.growth) ≡ true = next-valid c.args.back _ _ c.requires.ready.homing.valid c.requires.ready.homing.growth c.requires.movable in
     let most : c.args.geometry.parameters.pages ≤ 1024 = (limits _ c.requires.ready.homing.valid).pages_most in
-    let done = plan_fits _ _ _ (lent c.args.separators.now c.args.numbers.now c.args.words.now c.args.owners.now) c.pre.0.homing.valid c.pre.0.sized later c.pre.1.1.1.0 _ _ _ _ _ _ c.plan_all.ensures
+    let done = plan_fits _ _ _ (lent c.args.separators.now c.args.numbers.now c.args.words.now c.args.owners.now) c.requires.ready.homing.valid c.requires.ready.sized later c.requires.pages_value _ _ _ _ _ _ c.plan_all.ensures
     c.if-not-plan_all.false (omega (arith, most)) in
     let left = c.apply.ensures in
     record {

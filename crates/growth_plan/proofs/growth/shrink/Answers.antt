@@ -43,19 +43,19 @@ returns-then-bad-pages c =
 
 pub is_simple-requires : goal.is_simple-requires
 is_simple-requires c =
-    let pooled : Pooled c.args.geometry.parameters c.survey_pages-bad.last.1.1.1.1.1.1.0 c.args.waiting.now c.args.poolowners.now = let pool = c.requires.pooled in record { of_numbers = c.survey_pages-bad.kept.1.1.1.1.1.1.0 ∙ pool.of_numbers; of_words_lem = pool.of_words_lem; of_owners = pool.of_owners } in
-    let homed : c.survey_pages-bad.last.1.1.1.1.1.1.0 ≡ homes_of c.args.geometry.parameters c.args.geometry.growth c.args.numbers.now = surveyed-all _ _ (lent c.args.separators.now c.args.numbers.now c.args.words.now c.args.owners.now) c.requires.ready.homing.valid c.requires.ready.sized _ c.survey_pages-bad.ensures.value c.if-bad-pages.false _ _ c.requires.pooled.of_numbers c.survey_pages-bad.ensures.homes_after in
+    let pooled : Pooled c.args.geometry.parameters c.survey_pages-bad.new.homes c.args.waiting.now c.args.poolowners.now = let pool = c.requires.pooled in record { of_numbers = c.survey_pages-bad.auto.homes ∙ pool.of_numbers; of_words_lem = pool.of_words_lem; of_owners = pool.of_owners } in
+    let homed : c.survey_pages-bad.new.homes ≡ homes_of c.args.geometry.parameters c.args.geometry.growth c.args.numbers.now = surveyed-all _ _ (lent c.args.separators.now c.args.numbers.now c.args.words.now c.args.owners.now) c.requires.ready.homing.valid c.requires.ready.sized _ c.survey_pages-bad.ensures.value c.if-bad-pages.false _ _ c.requires.pooled.of_numbers c.survey_pages-bad.ensures.homes_after in
     record {
-      parameters_value = c.pre.0.homing.valid;
-      growth_value = c.pre.0.homing.growth;
-      homed = homes-kept _ _ (lent c.args.separators.now c.args.numbers.now c.args.words.now c.args.owners.now) _ c.pre.0.sized pooled.of_numbers homed;
+      parameters_value = c.requires.ready.homing.valid;
+      growth_value = c.requires.ready.homing.growth;
+      homed = homes-kept _ _ (lent c.args.separators.now c.args.numbers.now c.args.words.now c.args.owners.now) _ c.requires.ready.sized pooled.of_numbers homed;
     }
 
 pub replace_all-requires : goal.replace_all-requires
 replace_all-requires c =
-    let pooled : Pooled c.args.geometry.parameters c.survey_pages-bad.last.1.1.1.1.1.1.0 c.args.waiting.now c.args.poolowners.now = let pool = c.requires.pooled in record { of_numbers = c.survey_pages-bad.kept.1.1.1.1.1.1.0 ∙ pool.of_numbers; of_words_lem = pool.of_words_lem; of_owners = pool.of_owners } in
+    let pooled : Pooled c.args.geometry.parameters c.survey_pages-bad.new.homes c.args.waiting.now c.args.poolowners.now = let pool = c.requires.pooled in record { of_numbers = c.survey_pages-bad.auto.homes ∙ pool.of_numbers; of_words_lem = pool.of_words_lem; of_owners = pool.of_owners } in
     let sound : let p = c.args.geometry.parameters in first_unsound_lem p c.args.geometry.growth (lent c.args.separators.now c.args.numbers.now c.args.words.now c.args.owners.now) 0 p.pages ≡ p.pages = surveyed-sound _ _ (lent c.args.separators.now c.args.numbers.now c.args.words.now c.args.owners.now) c.requires.ready.homing.valid c.requires.ready.sized _ c.survey_pages-bad.ensures.value c.if-bad-pages.false in
-    let homed : c.survey_pages-bad.last.1.1.1.1.1.1.0 ≡ homes_of c.args.geometry.parameters c.args.geometry.growth c.args.numbers.now = surveyed-all _ _ (lent c.args.separators.now c.args.numbers.now c.args.words.now c.args.owners.now) c.requires.ready.homing.valid c.requires.ready.sized _ c.survey_pages-bad.ensures.value c.if-bad-pages.false _ _ c.requires.pooled.of_numbers c.survey_pages-bad.ensures.homes_after in
+    let homed : c.survey_pages-bad.new.homes ≡ homes_of c.args.geometry.parameters c.args.geometry.growth c.args.numbers.now = surveyed-all _ _ (lent c.args.separators.now c.args.numbers.now c.args.words.now c.args.owners.now) c.requires.ready.homing.valid c.requires.ready.sized _ c.survey_pages-bad.ensures.value c.if-bad-pages.false _ _ c.requires.pooled.of_numbers c.survey_pages-bad.ensures.homes_after in
     record {
       ready = c.requires.ready;
       pooled = pooled;
@@ -66,9 +66,9 @@ replace_all-requires c =
 
 pub move_own-requires : goal.move_own-requires
 move_own-requires c =
-    let pooled : Pooled c.args.geometry.parameters c.survey_pages-bad.last.1.1.1.1.1.1.0 c.args.waiting.now c.args.poolowners.now = let pool = c.requires.pooled in record { of_numbers = c.survey_pages-bad.kept.1.1.1.1.1.1.0 ∙ pool.of_numbers; of_words_lem = pool.of_words_lem; of_owners = pool.of_owners } in
+    let pooled : Pooled c.args.geometry.parameters c.survey_pages-bad.new.homes c.args.waiting.now c.args.poolowners.now = let pool = c.requires.pooled in record { of_numbers = c.survey_pages-bad.auto.homes ∙ pool.of_numbers; of_words_lem = pool.of_words_lem; of_owners = pool.of_owners } in
     let sound : let p = c.args.geometry.parameters in first_unsound_lem p c.args.geometry.growth (lent c.args.separators.now c.args.numbers.now c.args.words.now c.args.owners.now) 0 p.pages ≡ p.pages = surveyed-sound _ _ (lent c.args.separators.now c.args.numbers.now c.args.words.now c.args.owners.now) c.requires.ready.homing.valid c.requires.ready.sized _ c.survey_pages-bad.ensures.value c.if-bad-pages.false in
-    let homed : c.survey_pages-bad.last.1.1.1.1.1.1.0 ≡ homes_of c.args.geometry.parameters c.args.geometry.growth c.args.numbers.now = surveyed-all _ _ (lent c.args.separators.now c.args.numbers.now c.args.words.now c.args.owners.now) c.requires.ready.homing.valid c.requires.ready.sized _ c.survey_pages-bad.ensures.value c.if-bad-pages.false _ _ c.requires.pooled.of_numbers c.survey_pages-bad.ensures.homes_after in
+    let homed : c.survey_pages-bad.new.homes ≡ homes_of c.args.geometry.parameters c.args.geometry.growth c.args.numbers.now = surveyed-all _ _ (lent c.args.separators.now c.args.numbers.now c.args.words.now c.args.owners.now) c.requires.ready.homing.valid c.requires.ready.sized _ c.survey_pages-bad.ensures.value c.if-bad-pages.false _ _ c.requires.pooled.of_numbers c.survey_pages-bad.ensures.homes_after in
     record {
       ready = c.requires.ready;
       pooled = pooled;

@@ -15,8 +15,6 @@ use Rattle.growth_plan.proofs.Growing.{next-valid}
 use Rattle.growth_plan.proofs.PlannedGrowth.{all-ready, words-fit, settleable, placed-again}
 use Rattle.growth_plan.proofs.planning.plan_all.Goals as goal
 
-abbrev homes : After-rehome → List ℕ
-homes c = c.rehome.new.1.1.1.1.0
 
 of_homes_lem : (p : Parameters) (ns hs hs' pool' planned planned' W' : List ℕ) (r : Bool) → hs ≡ hs'
     → AllPlaced p (stretch_words p.places 0 p.pages 0 ns hs) hs pool' planned planned' W' r
@@ -26,7 +24,7 @@ of_homes_lem p ns hs hs' pool' planned planned' W' r e A =
 
 pub gather-end-requires : goal.gather-end-requires
 gather-end-requires c =
-    let ready : let p = c.args.geometry.parameters in let ns = c.args.numbers.now in StretchReady p 0 p.pages (lent (replicate p.pages 0) ns ns ns) (homes c) c.args.waiting.now c.args.waiting.now = all-ready _ _ _ _ _ c.requires.homing.valid (next-valid c.args.back _ _ c.requires.homing.valid c.requires.homing.growth c.requires.movable) c.requires.numbers_len.0 c.requires.numbers_len.1 c.requires.numbers_value c.rehome.ensures in
+    let ready : let p = c.args.geometry.parameters in let ns = c.args.numbers.now in StretchReady p 0 p.pages (lent (replicate p.pages 0) ns ns ns) c.rehome.new.homes c.args.waiting.now c.args.waiting.now = all-ready _ _ _ _ _ c.requires.homing.valid (next-valid c.args.back _ _ c.requires.homing.valid c.requires.homing.growth c.requires.movable) c.requires.numbers_len.0 c.requires.numbers_len.1 c.requires.numbers_value c.rehome.ensures in
     let L = ready in record {
       places_bound = (L.places_most, (L.some, L.pages_most));
       places_in_bounds = (L.numbers_long, L.pool_long);
@@ -38,15 +36,15 @@ gather-end-requires c =
 
 pub place_all-requires : goal.place_all-requires
 place_all-requires c =
-    let ready : let p = c.args.geometry.parameters in let ns = c.args.numbers.now in StretchReady p 0 p.pages (lent (replicate p.pages 0) ns ns ns) (homes c) c.args.waiting.now c.args.waiting.now = all-ready _ _ _ _ _ c.requires.homing.valid (next-valid c.args.back _ _ c.requires.homing.valid c.requires.homing.growth c.requires.movable) c.requires.numbers_len.0 c.requires.numbers_len.1 c.requires.numbers_value c.rehome.ensures in
-    let enough : let p = c.args.geometry.parameters in 0 + length (stretch_words p.places 0 p.pages 0 c.args.numbers.now (homes c)) ≤ length c.args.waiting.now = words-fit _ _ _ _ _ _ _ ready in
+    let ready : let p = c.args.geometry.parameters in let ns = c.args.numbers.now in StretchReady p 0 p.pages (lent (replicate p.pages 0) ns ns ns) c.rehome.new.homes c.args.waiting.now c.args.waiting.now = all-ready _ _ _ _ _ c.requires.homing.valid (next-valid c.args.back _ _ c.requires.homing.valid c.requires.homing.growth c.requires.movable) c.requires.numbers_len.0 c.requires.numbers_len.1 c.requires.numbers_value c.rehome.ensures in
+    let enough : let p = c.args.geometry.parameters in 0 + length (stretch_words p.places 0 p.pages 0 c.args.numbers.now c.rehome.new.homes) ≤ length c.args.waiting.now = words-fit _ _ _ _ _ _ _ ready in
     let L = ready in
     settleable _ _ _ _ _ c.gather-end.ensures.scatters enough c.gather-end.auto.waiting _ c.gather-end.ensures.value _ _ c.requires.homing.valid
     (omega (arith, c.requires.pages_in_bounds)) L.pool_long (omega (arith, L.pages_most, c.gather-end.auto.ends)) L.waiting-most
 
 pub returns : goal.returns
 returns c =
-    let ready : let p = c.args.geometry.parameters in let ns = c.args.numbers.now in StretchReady p 0 p.pages (lent (replicate p.pages 0) ns ns ns) (homes c) c.args.waiting.now c.args.waiting.now = all-ready _ _ _ _ _ c.requires.homing.valid (next-valid c.args.back _ _ c.requires.homing.valid c.requires.homing.growth c.requires.movable) c.requires.numbers_len.0 c.requires.numbers_len.1 c.requires.numbers_value c.rehome.ensures in
-    let enough : let p = c.args.geometry.parameters in 0 + length (stretch_words p.places 0 p.pages 0 c.args.numbers.now (homes c)) ≤ length c.args.waiting.now = words-fit _ _ _ _ _ _ _ ready in
+    let ready : let p = c.args.geometry.parameters in let ns = c.args.numbers.now in StretchReady p 0 p.pages (lent (replicate p.pages 0) ns ns ns) c.rehome.new.homes c.args.waiting.now c.args.waiting.now = all-ready _ _ _ _ _ c.requires.homing.valid (next-valid c.args.back _ _ c.requires.homing.valid c.requires.homing.growth c.requires.movable) c.requires.numbers_len.0 c.requires.numbers_len.1 c.requires.numbers_value c.rehome.ensures in
+    let enough : let p = c.args.geometry.parameters in 0 + length (stretch_words p.places 0 p.pages 0 c.args.numbers.now c.rehome.new.homes) ≤ length c.args.waiting.now = words-fit _ _ _ _ _ _ _ ready in
     of_homes_lem _ _ _ _ _ _ _ _ _ c.rehome.ensures
     (placed-again _ _ _ _ _ c.gather-end.ensures.scatters enough c.gather-end.auto.waiting _ c.gather-end.ensures.value _ _ _ _ _ _ c.place_all.ensures)

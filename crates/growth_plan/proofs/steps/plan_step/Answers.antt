@@ -36,7 +36,7 @@ returns-then-bad-pages c =
 
 pub is_local-requires : goal.is_local-requires
 is_local-requires c =
-    let homed : c.survey_pages-bad.new.1.1.1.1.1.1.0 ≡ homes_of c.args.geometry.parameters c.args.geometry.growth c.args.numbers.now = surveyed-all _ _ (lent c.args.separators.now c.args.numbers.now c.args.words.now c.args.owners.now) c.requires.ready.homing.valid c.requires.ready.sized _ c.survey_pages-bad.ensures.value c.if-bad-pages.false _ _ c.requires.pool_len c.survey_pages-bad.ensures.homes_after in
+    let homed : c.survey_pages-bad.new.homes ≡ homes_of c.args.geometry.parameters c.args.geometry.growth c.args.numbers.now = surveyed-all _ _ (lent c.args.separators.now c.args.numbers.now c.args.words.now c.args.owners.now) c.requires.ready.homing.valid c.requires.ready.sized _ c.survey_pages-bad.ensures.value c.if-bad-pages.false _ _ c.requires.pool_len c.survey_pages-bad.ensures.homes_after in
     let sound : let p = c.args.geometry.parameters in first_unsound_lem p c.args.geometry.growth (lent c.args.separators.now c.args.numbers.now c.args.words.now c.args.owners.now) 0 p.pages ≡ p.pages = surveyed-sound _ _ (lent c.args.separators.now c.args.numbers.now c.args.words.now c.args.owners.now) c.requires.ready.homing.valid c.requires.ready.sized _ c.survey_pages-bad.ensures.value c.if-bad-pages.false in
     record {
       homing = c.requires.ready.homing;
@@ -51,7 +51,7 @@ is_local-requires c =
 -- a page planned by its block
 pub plan_block-requires : goal.plan_block-requires
 plan_block-requires c =
-    let homed : c.survey_pages-bad.new.1.1.1.1.1.1.0 ≡ homes_of c.args.geometry.parameters c.args.geometry.growth c.args.numbers.now = surveyed-all _ _ (lent c.args.separators.now c.args.numbers.now c.args.words.now c.args.owners.now) c.requires.ready.homing.valid c.requires.ready.sized _ c.survey_pages-bad.ensures.value c.if-bad-pages.false _ _ c.requires.pool_len c.survey_pages-bad.ensures.homes_after in
+    let homed : c.survey_pages-bad.new.homes ≡ homes_of c.args.geometry.parameters c.args.geometry.growth c.args.numbers.now = surveyed-all _ _ (lent c.args.separators.now c.args.numbers.now c.args.words.now c.args.owners.now) c.requires.ready.homing.valid c.requires.ready.sized _ c.survey_pages-bad.ensures.value c.if-bad-pages.false _ _ c.requires.pool_len c.survey_pages-bad.ensures.homes_after in
     let sound : let p = c.args.geometry.parameters in first_unsound_lem p c.args.geometry.growth (lent c.args.separators.now c.args.numbers.now c.args.words.now c.args.owners.now) 0 p.pages ≡ p.pages = surveyed-sound _ _ (lent c.args.separators.now c.args.numbers.now c.args.words.now c.args.owners.now) c.requires.ready.homing.valid c.requires.ready.sized _ c.survey_pages-bad.ensures.value c.if-bad-pages.false in
     let local : IsLocal c.args.geometry.parameters c.args.geometry.growth c.args.separators.now c.args.numbers.now c.args.step = c.is_local.ensures c.if-is_local.true in
     record {
@@ -78,7 +78,7 @@ returns-then-is_local c =
 
 pub plan_all-requires : goal.plan_all-requires
 plan_all-requires c =
-    let homed : c.survey_pages-bad.new.1.1.1.1.1.1.0 ≡ homes_of c.args.geometry.parameters c.args.geometry.growth c.args.numbers.now = surveyed-all _ _ (lent c.args.separators.now c.args.numbers.now c.args.words.now c.args.owners.now) c.requires.ready.homing.valid c.requires.ready.sized _ c.survey_pages-bad.ensures.value c.if-bad-pages.false _ _ c.requires.pool_len c.survey_pages-bad.ensures.homes_after in
+    let homed : c.survey_pages-bad.new.homes ≡ homes_of c.args.geometry.parameters c.args.geometry.growth c.args.numbers.now = surveyed-all _ _ (lent c.args.separators.now c.args.numbers.now c.args.words.now c.args.owners.now) c.requires.ready.homing.valid c.requires.ready.sized _ c.survey_pages-bad.ensures.value c.if-bad-pages.false _ _ c.requires.pool_len c.survey_pages-bad.ensures.homes_after in
     let sound : let p = c.args.geometry.parameters in first_unsound_lem p c.args.geometry.growth (lent c.args.separators.now c.args.numbers.now c.args.words.now c.args.owners.now) 0 p.pages ≡ p.pages = surveyed-sound _ _ (lent c.args.separators.now c.args.numbers.now c.args.words.now c.args.owners.now) c.requires.ready.homing.valid c.requires.ready.sized _ c.survey_pages-bad.ensures.value c.if-bad-pages.false in
     record {
       homing = c.requires.ready.homing;
@@ -106,9 +106,9 @@ returns c =
     let sound : let p = c.args.geometry.parameters in first_unsound_lem p c.args.geometry.growth (lent c.args.separators.now c.args.numbers.now c.args.words.now c.args.owners.now) 0 p.pages ≡ p.pages = surveyed-sound _ _ (lent c.args.separators.now c.args.numbers.now c.args.words.now c.args.owners.now) c.requires.ready.homing.valid c.requires.ready.sized _ c.survey_pages-bad.ensures.value c.if-bad-pages.false in
     let P = c.plan_all.ensures in
     let kept = c.plan_all.auto in
-    let size = kept.1.1.1.1.0 ∙ c.survey_pages-bad.auto.homes ∙ c.requires.pool_len in
+    let size = kept.pool ∙ c.survey_pages-bad.auto.homes ∙ c.requires.pool_len in
     let done = plan_fits _ _ _ (lent c.args.separators.now c.args.numbers.now c.args.words.now c.args.owners.now) c.requires.ready.homing.valid c.requires.ready.sized later sound _ _ _ _ _ _ P c.if-not-plan_all.false c.requires.pages_in_bounds.0 in
     record {
       value = done.0;
-      plans_step = λ page e. all_named _ _ _ (lent c.args.separators.now c.args.numbers.now c.args.words.now c.args.owners.now) _ _ done.0 c.args.step _ _ c.requires.ready.sized size (omega (arith, c.requires.pages_in_bounds.0, kept.1.1.1.1.1.1.0)) c.requires.pages_in_bounds.1 done.1;
+      plans_step = λ page e. all_named _ _ _ (lent c.args.separators.now c.args.numbers.now c.args.words.now c.args.owners.now) _ _ done.0 c.args.step _ _ c.requires.ready.sized size (omega (arith, c.requires.pages_in_bounds.0, kept.planned)) c.requires.pages_in_bounds.1 done.1;
     }

@@ -27,26 +27,25 @@ write_planned-requires c =
     let l = bounds in
     let size = c.requires.sized in
     let pool = c.requires.pooled in
-    let kept = c.plan_step.auto.pool in record {
+    let kept = c.plan_step.auto in record {
       places_bound = (l.places_most, omega (arith, l.pages_most, c.requires.step_lt_pages));
-      step_in_bounds = (omega (arith, size.of_separators, c.requires.step_lt_pages), omega (arith, l.pages_most, c.requires.step_lt_pages, kept.1.1.0));
-      places_in_bounds = (omega (arith, inside, size.of_numbers), omega (arith, inside, pool.of_numbers, kept.0));
-      places_in_bounds_2 = (omega (arith, inside, size.of_words_lem), omega (arith, inside, pool.of_words_lem, kept.1.0));
+      step_in_bounds = (omega (arith, size.of_separators, c.requires.step_lt_pages), omega (arith, l.pages_most, c.requires.step_lt_pages, kept.planned));
+      places_in_bounds = (omega (arith, inside, size.of_numbers), omega (arith, inside, pool.of_numbers, kept.pool));
+      places_in_bounds_2 = (omega (arith, inside, size.of_words_lem), omega (arith, inside, pool.of_words_lem, kept.waiting));
       places_in_bounds_3 = (omega (arith, inside, size.of_owners), omega (arith, inside, pool.of_owners));
     }
 
 pub returns-in-Unsound : goal.returns-in-Unsound
 returns-in-Unsound c =
-    let v = c.bad-1.given in
-    let answer = sym v.1 ∙ c.plan_step.ensures.value in
+    let answer = sym c.in-Unsound.is ∙ c.plan_step.ensures.value in
     record {
       value = answer;
-      secondowners_value = unsound-stepped _ _ _ (lent c.args.separators.now c.args.numbers.now c.args.words.now c.args.owners.now) (lent c.args.secondseparators.now c.args.secondnumbers.now c.args.secondwords.now c.args.secondowners.now) c.args.step _ v.0.0 answer;
+      secondowners_value = unsound-stepped _ _ _ (lent c.args.separators.now c.args.numbers.now c.args.words.now c.args.owners.now) (lent c.args.secondseparators.now c.args.secondnumbers.now c.args.secondwords.now c.args.secondowners.now) c.args.step _ c.in-Unsound.bad answer;
     }
 
 pub returns-in-Overflows : goal.returns-in-Overflows
 returns-in-Overflows c =
-    let answer = sym c.enum_told-1.given.1 ∙ c.plan_step.ensures.value in
+    let answer = sym c.in-Overflows.is ∙ c.plan_step.ensures.value in
     record {
       value = answer;
       secondowners_value = overflows_stepped _ _ _ (lent c.args.separators.now c.args.numbers.now c.args.words.now c.args.owners.now) (lent c.args.secondseparators.now c.args.secondnumbers.now c.args.secondwords.now c.args.secondowners.now) c.args.step _ answer;
@@ -54,10 +53,9 @@ returns-in-Overflows c =
 
 pub returns-in-On : goal.returns-in-On
 returns-in-On c =
-    let v = c.new-1.given in
     let y = c.write_planned.ensures in
-    let answer = sym v.1 ∙ c.plan_step.ensures.value in record {
+    let answer = sym c.in-On.is ∙ c.plan_step.ensures.value in record {
       value = answer;
-      secondowners_value = on-stepped _ _ _ (lent c.args.separators.now c.args.numbers.now c.args.words.now c.args.owners.now) (lent c.args.secondseparators.now c.args.secondnumbers.now c.args.secondwords.now c.args.secondowners.now) c.args.step _ v.0.0 c.requires.ready.sized c.requires.step_lt_pages answer
-          _ _ (c.plan_step.ensures.plans_step v.0.0 v.1) _ _ _ _ y.secondseparators_after y.secondnumbers_after y.secondwords_after y.secondowners_after;
+      secondowners_value = on-stepped _ _ _ (lent c.args.separators.now c.args.numbers.now c.args.words.now c.args.owners.now) (lent c.args.secondseparators.now c.args.secondnumbers.now c.args.secondwords.now c.args.secondowners.now) c.args.step _ c.in-On.new c.requires.ready.sized c.requires.step_lt_pages answer
+          _ _ (c.plan_step.ensures.plans_step c.in-On.new c.in-On.is) _ _ _ _ y.secondseparators_after y.secondnumbers_after y.secondwords_after y.secondowners_after;
     }

@@ -14,12 +14,12 @@ use Rattle.mending.proofs.call.mend_at.Goals as goal
 -- what is known past the guard
 pub returns-in-Refused : goal.returns-in-Refused
 unfolding mend_of placed file_fits_lem pool_fits_lem
-returns-in-Refused c = leaves _ _ _ _ _ (turned-away _ _ _ _ _ _ _ (refusal_is _ _ c.guard.ensures c.all_fit-fits.ensures c.refusal-1.given.1))
+returns-in-Refused c = leaves _ _ _ _ _ (turned-away _ _ _ _ _ _ _ (refusal_is _ _ c.guard.ensures c.all_fit-fits.ensures c.in-Refused.is))
 
 pub mend_file-answer-requires : goal.mend_file-answer-requires
 unfolding file_fits_lem pool_fits_lem
 mend_file-answer-requires c =
-    let none : unlent c.args.parameters c.args.growth (file_fits_lem c.args.parameters (lent c.args.separators.now c.args.numbers.now c.args.words.now c.args.owners.now) && pool_fits_lem c.args.parameters (pooled c.args.poolnumbers.now c.args.poolwords.now c.args.poolowners.now)) ≡ 0 = none_is _ _ c.guard.ensures c.all_fit-fits.ensures c.enum_told-1.given.1 in
+    let none : unlent c.args.parameters c.args.growth (file_fits_lem c.args.parameters (lent c.args.separators.now c.args.numbers.now c.args.words.now c.args.owners.now) && pool_fits_lem c.args.parameters (pooled c.args.poolnumbers.now c.args.poolwords.now c.args.poolowners.now)) ≡ 0 = none_is _ _ c.guard.ensures c.all_fit-fits.ensures c.in_default.is in
     let lent-well : Admitted c.args.parameters c.args.growth (lent c.args.separators.now c.args.numbers.now c.args.words.now c.args.owners.now) × Pooled c.args.parameters (pooled c.args.poolnumbers.now c.args.poolwords.now c.args.poolowners.now).numbers (pooled c.args.poolnumbers.now c.args.poolwords.now c.args.poolowners.now).words (pooled c.args.poolnumbers.now c.args.poolwords.now c.args.poolowners.now).owners = admitted-pool _ _ _ (pooled c.args.poolnumbers.now c.args.poolwords.now c.args.poolowners.now) none in
     record {
   admitted = lent-well.0;
@@ -29,7 +29,7 @@ mend_file-answer-requires c =
 pub returns : goal.returns
 unfolding mend_of file_fits_lem pool_fits_lem
 returns c =
-    let none : unlent c.args.parameters c.args.growth (file_fits_lem c.args.parameters (lent c.args.separators.now c.args.numbers.now c.args.words.now c.args.owners.now) && pool_fits_lem c.args.parameters (pooled c.args.poolnumbers.now c.args.poolwords.now c.args.poolowners.now)) ≡ 0 = none_is _ _ c.guard.ensures c.all_fit-fits.ensures c.enum_told-1.given.1 in
+    let none : unlent c.args.parameters c.args.growth (file_fits_lem c.args.parameters (lent c.args.separators.now c.args.numbers.now c.args.words.now c.args.owners.now) && pool_fits_lem c.args.parameters (pooled c.args.poolnumbers.now c.args.poolwords.now c.args.poolowners.now)) ≡ 0 = none_is _ _ c.guard.ensures c.all_fit-fits.ensures c.in_default.is in
     let done = c.mend_file-answer in
     let zeros = c.clear.ensures in
     rw none

@@ -26,13 +26,13 @@ gather-end-requires c =
 
 pub sort_groups-requires : goal.sort_groups-requires
 sort_groups-requires c =
-    let groups : InGroups c.args.parameters.pages c.gather-end.result c.gather-end.new.1.1.0 c.gather-end.new.1.1.1.0 = gathered-groups _ _ _ _ _ c.requires _ _ _ c.gather-end.ensures.value c.gather-end.ensures.scatters c.gather-end.auto.waiting c.gather-end.auto.ends in
+    let groups : InGroups c.args.parameters.pages c.gather-end.result c.gather-end.new.waiting c.gather-end.new.ends = gathered-groups _ _ _ _ _ c.requires _ _ _ c.gather-end.ensures.value c.gather-end.ensures.scatters c.gather-end.auto.waiting c.gather-end.auto.ends in
     groups
 
 pub all_agree-requires : goal.all_agree-requires
 all_agree-requires c =
-    let groups : InGroups c.args.parameters.pages c.gather-end.result c.gather-end.new.1.1.0 c.gather-end.new.1.1.1.0 = gathered-groups _ _ _ _ _ c.requires _ _ _ c.gather-end.ensures.value c.gather-end.ensures.scatters c.gather-end.auto.waiting c.gather-end.auto.ends in
-    let end-inside : c.gather-end.result ≤ length c.sort_groups.new.0 = omega (arith, groups.inside, c.sort_groups.auto.waiting) in
+    let groups : InGroups c.args.parameters.pages c.gather-end.result c.gather-end.new.waiting c.gather-end.new.ends = gathered-groups _ _ _ _ _ c.requires _ _ _ c.gather-end.ensures.value c.gather-end.ensures.scatters c.gather-end.auto.waiting c.gather-end.auto.ends in
+    let end-inside : c.gather-end.result ≤ length c.sort_groups.new.waiting = omega (arith, groups.inside, c.sort_groups.auto.waiting) in
     let end-few : c.gather-end.result ≤ 32768 = omega (arith, groups.inside, groups.few) in
     record {
   end_in_bounds = end-inside;
@@ -41,7 +41,7 @@ all_agree-requires c =
 
 pub returns-then-not-all_agree : goal.returns-then-not-all_agree
 returns-then-not-all_agree c =
-    let sorted : take c.gather-end.result c.sort_groups.new.0 ≡ file_words c.args.parameters c.args.numbers.now c.args.homes.now = gathered-ordered _ _ _ _ _ c.requires _ _ _ c.gather-end.ensures.value c.gather-end.ensures.scatters _ c.sort_groups.ensures in
+    let sorted : take c.gather-end.result c.sort_groups.new.waiting ≡ file_words c.args.parameters c.args.numbers.now c.args.homes.now = gathered-ordered _ _ _ _ _ c.requires _ _ _ c.gather-end.ensures.value c.gather-end.ensures.scatters _ c.sort_groups.ensures in
     record {
       alike_is = sym (failed _ _ c.all_agree.ensures (ap not c.if-not-all_agree.true)) ∙ ap (neighbours_agree _ _) sorted;
       inside = omega arith;
@@ -51,14 +51,14 @@ returns-then-not-all_agree c =
 
 pub drop_repeated-kept-requires : goal.drop_repeated-kept-requires
 drop_repeated-kept-requires c =
-    let groups : InGroups c.args.parameters.pages c.gather-end.result c.gather-end.new.1.1.0 c.gather-end.new.1.1.1.0 = gathered-groups _ _ _ _ _ c.requires _ _ _ c.gather-end.ensures.value c.gather-end.ensures.scatters c.gather-end.auto.waiting c.gather-end.auto.ends in
-    let end-inside : c.gather-end.result ≤ length c.sort_groups.new.0 = omega (arith, groups.inside, c.sort_groups.auto.waiting) in
+    let groups : InGroups c.args.parameters.pages c.gather-end.result c.gather-end.new.waiting c.gather-end.new.ends = gathered-groups _ _ _ _ _ c.requires _ _ _ c.gather-end.ensures.value c.gather-end.ensures.scatters c.gather-end.auto.waiting c.gather-end.auto.ends in
+    let end-inside : c.gather-end.result ≤ length c.sort_groups.new.waiting = omega (arith, groups.inside, c.sort_groups.auto.waiting) in
     end-inside
 
 pub mark_ends-requires : goal.mark_ends-requires
 mark_ends-requires c =
-    let groups : InGroups c.args.parameters.pages c.gather-end.result c.gather-end.new.1.1.0 c.gather-end.new.1.1.1.0 = gathered-groups _ _ _ _ _ c.requires _ _ _ c.gather-end.ensures.value c.gather-end.ensures.scatters c.gather-end.auto.waiting c.gather-end.auto.ends in
-    let end-inside : c.gather-end.result ≤ length c.sort_groups.new.0 = omega (arith, groups.inside, c.sort_groups.auto.waiting) in
+    let groups : InGroups c.args.parameters.pages c.gather-end.result c.gather-end.new.waiting c.gather-end.new.ends = gathered-groups _ _ _ _ _ c.requires _ _ _ c.gather-end.ensures.value c.gather-end.ensures.scatters c.gather-end.auto.waiting c.gather-end.auto.ends in
+    let end-inside : c.gather-end.result ≤ length c.sort_groups.new.waiting = omega (arith, groups.inside, c.sort_groups.auto.waiting) in
     let end-few : c.gather-end.result ≤ 32768 = omega (arith, groups.inside, groups.few) in
     let e = c.drop_repeated-kept.ensures in record {
       end_in_bounds = (omega (arith, e.upper_bound, end-inside, c.drop_repeated-kept.auto.waiting), groups.long);
@@ -68,9 +68,9 @@ mark_ends-requires c =
 
 pub returns : goal.returns
 returns c =
-    let sorted : take c.gather-end.result c.sort_groups.new.0 ≡ file_words c.args.parameters c.args.numbers.now c.args.homes.now = gathered-ordered _ _ _ _ _ c.requires _ _ _ c.gather-end.ensures.value c.gather-end.ensures.scatters _ c.sort_groups.ensures in
-    let groups : InGroups c.args.parameters.pages c.gather-end.result c.gather-end.new.1.1.0 c.gather-end.new.1.1.1.0 = gathered-groups _ _ _ _ _ c.requires _ _ _ c.gather-end.ensures.value c.gather-end.ensures.scatters c.gather-end.auto.waiting c.gather-end.auto.ends in
-    let end-inside : c.gather-end.result ≤ length c.sort_groups.new.0 = omega (arith, groups.inside, c.sort_groups.auto.waiting) in
+    let sorted : take c.gather-end.result c.sort_groups.new.waiting ≡ file_words c.args.parameters c.args.numbers.now c.args.homes.now = gathered-ordered _ _ _ _ _ c.requires _ _ _ c.gather-end.ensures.value c.gather-end.ensures.scatters _ c.sort_groups.ensures in
+    let groups : InGroups c.args.parameters.pages c.gather-end.result c.gather-end.new.waiting c.gather-end.new.ends = gathered-groups _ _ _ _ _ c.requires _ _ _ c.gather-end.ensures.value c.gather-end.ensures.scatters c.gather-end.auto.waiting c.gather-end.auto.ends in
+    let end-inside : c.gather-end.result ≤ length c.sort_groups.new.waiting = omega (arith, groups.inside, c.sort_groups.auto.waiting) in
     record {
       alike_is = sym (passed _ _ c.all_agree.ensures (ap not c.if-not-all_agree.false)) ∙ ap (neighbours_agree _ _) sorted;
       inside = omega (arith, c.drop_repeated-kept.ensures.upper_bound, end-inside, c.drop_repeated-kept.auto.waiting);

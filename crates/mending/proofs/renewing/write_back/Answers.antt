@@ -7,21 +7,21 @@ pub copy_64-requires : goal.copy_64-requires
 copy_64-requires c =
     record {
       in_bounds = omega (arith, c.requires.numbers_len);
-      in_bounds_2 = omega (arith, c.fetch.kept.1.1.1.1.0, c.requires.waiting_len);
+      in_bounds_2 = omega (arith, c.fetch.auto.waiting, c.requires.waiting_len);
     }
 
 pub copy_8-requires : goal.copy_8-requires
 copy_8-requires c =
     record {
       in_bounds = omega (arith, c.requires.numbers_len);
-      in_bounds_2 = omega (arith, c.fetch.kept.1.1.1.1.1.0, c.requires.waiting_len);
+      in_bounds_2 = omega (arith, c.fetch.auto.poolowners, c.requires.waiting_len);
     }
 
 pub copy_8-requires-2 : goal.copy_8-requires-2
 copy_8-requires-2 c =
     record {
       in_bounds = omega arith;
-      in_bounds_2 = omega (arith, c.pre.0);
+      in_bounds_2 = omega (arith, c.requires.separators_in_bounds);
     }
 
 pub returns : goal.returns

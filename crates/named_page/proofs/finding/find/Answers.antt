@@ -149,7 +149,7 @@ returns-then-not-found c =
     let loaded = (tested d).load-value.ensures in record {
       named_as = absent_as s.args.geometry.parameters s.args.geometry.growth (file_of s) s.args.number _ _ s.requires.ready.sized s.requires.home_value e.named_from-page.ensures _
           (in_file _ _ _ _ _ (inside e) (sound d))
-          (sym (held-is s.args.geometry.parameters (file_of s) _ _ _ _ (fits e) loaded d.search-found.ensures) ∙ c.if-not-found.true)
+          (sym (held-is s.args.geometry.parameters (file_of s) _ _ _ _ (fits e) loaded d.search-found.ensures) ∙ (not-true _ c.if-not-found.true))
           (place_is s.args.geometry.parameters (file_of s) _ _ _ _ (fits e) loaded d.search-found.ensures);
       homed_as = record { long = (tested d).page_sound.ensures.long; homed = λ t. homes d };
     }
@@ -159,7 +159,7 @@ abbrev sought : Else-not-found → After-search-found
 sought c = c.before.before
 
 held : (c : Else-not-found) → (sought c).search-found.result.held ≡ true
-held c = c.if-not-found.false
+held c = (not-false _ c.if-not-found.false)
 
 within : (c : Else-not-found) → (sought c).search-found.result.at < (begun (entered (tested (sought c)))).args.geometry.parameters.places
 within c =

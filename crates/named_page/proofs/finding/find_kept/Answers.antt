@@ -38,7 +38,7 @@ find-named-requires c =
 pub returns-then-not-named : goal.returns-then-not-named
 returns-then-not-named c = record {
   named_as = c.find-named.ensures.named_as;
-  known = λ e. absurd (false≢true (sym c.if-not-named.true ∙ e));
+  known = λ e. absurd (false≢true (sym (not-true _ c.if-not-named.true) ∙ e));
 }
 
 -- past the test, the page is readable
@@ -46,7 +46,7 @@ abbrev start : Else-not-named → Start
 start c = c.before.before.before.before.before.before.before.before.before.before
 
 opened : (c : Else-not-named) → c.find-named.result.readable ≡ true
-opened c = c.if-not-named.false
+opened c = (not-false _ c.if-not-named.false)
 
 -- its items lie within the pool
 inside : (c : Else-not-named) {n : ℕ} → n ≡ (start c).args.geometry.parameters.pages * (start c).args.geometry.parameters.places

@@ -36,36 +36,36 @@ pub load-value-requires : goal.load-value-requires
 load-value-requires c =
     let unheld : Unheld c.args.geometry.parameters c.args.geometry.growth (lent c.args.separators.now c.args.numbers.now c.args.words.now c.args.owners.now) c.args.number = let e = c.requires.enterable in laid-unheld _ _ (lent c.args.separators.now c.args.numbers.now c.args.words.now c.args.owners.now) e.stars c.requires.ready.homing.valid c.requires.ready.homing.growth e.laid_out c.args.number e.number e.absent in
     let inside : c.named_from-page.result < c.args.geometry.parameters.pages = omega (arith, c.named_from-page.ensures, unheld.named) in
-    let fits : {n : ℕ} → n ≡ c.args.geometry.parameters.pages * c.args.geometry.parameters.places → c.named_from-page.result * c.args.geometry.parameters.places + c.args.geometry.parameters.places ≤ n = λ e. page-fits _ _ _ inside e in
+    let fits : (n : ℕ) → n ≡ c.args.geometry.parameters.pages * c.args.geometry.parameters.places → c.named_from-page.result * c.args.geometry.parameters.places + c.args.geometry.parameters.places ≤ n = λ n e. page-fits _ _ _ inside e in
     record {
       places_bound = (limits _ c.requires.ready.homing.valid).places_most;
-      places_in_bounds = fits c.requires.ready.sized.of_numbers;
-      places_in_bounds_2 = fits c.requires.ready.sized.of_words_lem;
-      places_in_bounds_3 = fits c.requires.ready.sized.of_owners;
+      places_in_bounds = fits _ c.requires.ready.sized.of_numbers;
+      places_in_bounds_2 = fits _ c.requires.ready.sized.of_words_lem;
+      places_in_bounds_3 = fits _ c.requires.ready.sized.of_owners;
     }
 
 pub search-found-requires : goal.search-found-requires
 search-found-requires c =
-    ((limits _ c.requires.ready.homing.valid).places_most, search (rules, c.load-value.type-inv))
+    ((limits _ c.requires.ready.homing.valid).places_most, search (rules, c.load-value.type_inv))
 
 pub overflow_cast-star : goal.overflow_cast-star
 overflow_cast-star c =
     let unheld : Unheld c.args.geometry.parameters c.args.geometry.growth (lent c.args.separators.now c.args.numbers.now c.args.words.now c.args.owners.now) c.args.number = let e = c.requires.enterable in laid-unheld _ _ (lent c.args.separators.now c.args.numbers.now c.args.words.now c.args.owners.now) e.stars c.requires.ready.homing.valid c.requires.ready.homing.growth e.laid_out c.args.number e.number e.absent in
     let inside : c.named_from-page.result < c.args.geometry.parameters.pages = omega (arith, c.named_from-page.ensures, unheld.named) in
-    let fits : {n : ℕ} → n ≡ c.args.geometry.parameters.pages * c.args.geometry.parameters.places → c.named_from-page.result * c.args.geometry.parameters.places + c.args.geometry.parameters.places ≤ n = λ e. page-fits _ _ _ inside e in
-    omega (arith, found-low _ _ _ _ _ _ _ _ c.load-value.ensures c.search-found.ensures (fits c.requires.ready.sized.of_numbers) (limits _ c.requires.ready.homing.valid).places_most)
+    let fits : (n : ℕ) → n ≡ c.args.geometry.parameters.pages * c.args.geometry.parameters.places → c.named_from-page.result * c.args.geometry.parameters.places + c.args.geometry.parameters.places ≤ n = λ n e. page-fits _ _ _ inside e in
+    omega (arith, found-low _ _ _ _ _ _ _ _ c.load-value.ensures c.search-found.ensures (fits _ c.requires.ready.sized.of_numbers) (limits _ c.requires.ready.homing.valid).places_most)
 
 pub enter_star-requires : goal.enter_star-requires
 enter_star-requires c =
     let unheld : Unheld c.args.geometry.parameters c.args.geometry.growth (lent c.args.separators.now c.args.numbers.now c.args.words.now c.args.owners.now) c.args.number = let e = c.requires.enterable in laid-unheld _ _ (lent c.args.separators.now c.args.numbers.now c.args.words.now c.args.owners.now) e.stars c.requires.ready.homing.valid c.requires.ready.homing.growth e.laid_out c.args.number e.number e.absent in
     let inside : c.named_from-page.result < c.args.geometry.parameters.pages = omega (arith, c.named_from-page.ensures, unheld.named) in
-    let fits : {n : ℕ} → n ≡ c.args.geometry.parameters.pages * c.args.geometry.parameters.places → c.named_from-page.result * c.args.geometry.parameters.places + c.args.geometry.parameters.places ≤ n = λ e. page-fits _ _ _ inside e in
+    let fits : (n : ℕ) → n ≡ c.args.geometry.parameters.pages * c.args.geometry.parameters.places → c.named_from-page.result * c.args.geometry.parameters.places + c.args.geometry.parameters.places ≤ n = λ n e. page-fits _ _ _ inside e in
     let e = c.requires.enterable in
     let surveyed = c.survey_pages in record {
       enters = record { ready = c.requires.ready; number = e.number; unheld = unheld; homed = c.home-home.ensures; here = c.named_from-page.ensures };
       pooled = record { of_numbers = surveyed.auto.homes ∙ c.requires.pooled.of_numbers; of_words_lem = c.requires.pooled.of_words_lem; of_owners = c.requires.pooled.of_owners };
-      known = laid-known _ _ (lent c.args.separators.now c.args.numbers.now c.args.words.now c.args.owners.now) e.stars c.requires.ready.homing.valid c.requires.ready.homing.growth e.laid_out _ _ _ _ c.requires.pooled.of_numbers inside surveyed.ensures.0 surveyed.ensures.1;
-      place_value = found_at _ _ _ _ _ _ _ _ c.load-value.ensures c.search-found.ensures (fits c.requires.ready.sized.of_numbers);
+      known = laid-known _ _ (lent c.args.separators.now c.args.numbers.now c.args.words.now c.args.owners.now) e.stars c.requires.ready.homing.valid c.requires.ready.homing.growth e.laid_out _ _ _ _ c.requires.pooled.of_numbers inside surveyed.ensures.value surveyed.ensures.homes_after;
+      place_value = found_at _ _ _ _ _ _ _ _ c.load-value.ensures c.search-found.ensures (fits _ c.requires.ready.sized.of_numbers);
     }
 
 pub shape_of-pool-in-On : goal.shape_of-pool-in-On
@@ -75,7 +75,7 @@ pub returns-in-On : goal.returns-in-On
 returns-in-On c t laid absent =
     let e = c.requires.enterable in
     let done = c.enter_star.ensures in
-    entered_on _ _ (lent c.args.separators.now c.args.numbers.now c.args.words.now c.args.owners.now) t c.requires.ready.homing.valid c.requires.ready.homing.growth laid (star_with c.args.number c.args.word c.args.owner) e.number e.valid absent _ _ done.value done.owners_value _ c.enum_told-1.given.1
+    entered_on _ _ (lent c.args.separators.now c.args.numbers.now c.args.words.now c.args.owners.now) t c.requires.ready.homing.valid c.requires.ready.homing.growth laid (star_with c.args.number c.args.word c.args.owner) e.number e.valid absent _ _ done.value done.owners_value _ c.in-On.is
 
 pub shape_of-pool-in-Unsound : goal.shape_of-pool-in-Unsound
 shape_of-pool-in-Unsound c = c.enter_star.auto.pool ∙ c.survey_pages.auto.homes
@@ -84,7 +84,7 @@ pub returns-in-Unsound : goal.returns-in-Unsound
 returns-in-Unsound c t laid absent =
     let e = c.requires.enterable in
     let done = c.enter_star.ensures in
-    entered-not _ _ (lent c.args.separators.now c.args.numbers.now c.args.words.now c.args.owners.now) t c.requires.ready.homing.valid c.requires.ready.homing.growth laid (star_with c.args.number c.args.word c.args.owner) e.number e.valid absent _ _ done.value done.owners_value (λ page d. unsound-on _ page (sym c.enum_told-in-Unsound-1.given.1 ∙ d))
+    entered-not _ _ (lent c.args.separators.now c.args.numbers.now c.args.words.now c.args.owners.now) t c.requires.ready.homing.valid c.requires.ready.homing.growth laid (star_with c.args.number c.args.word c.args.owner) e.number e.valid absent _ _ done.value done.owners_value (λ page d. unsound-on _ page (sym c.in-Unsound.is ∙ d))
 
 pub shape_of-pool-in-Overflows : goal.shape_of-pool-in-Overflows
 shape_of-pool-in-Overflows c = c.enter_star.auto.pool ∙ c.survey_pages.auto.homes
@@ -93,4 +93,4 @@ pub returns-in-Overflows : goal.returns-in-Overflows
 returns-in-Overflows c t laid absent =
     let e = c.requires.enterable in
     let done = c.enter_star.ensures in
-    entered-not _ _ (lent c.args.separators.now c.args.numbers.now c.args.words.now c.args.owners.now) t c.requires.ready.homing.valid c.requires.ready.homing.growth laid (star_with c.args.number c.args.word c.args.owner) e.number e.valid absent _ _ done.value done.owners_value (λ page d. overflows_on page (sym c.enum_told-in-Overflows-1.given.1 ∙ d))
+    entered-not _ _ (lent c.args.separators.now c.args.numbers.now c.args.words.now c.args.owners.now) t c.requires.ready.homing.valid c.requires.ready.homing.growth laid (star_with c.args.number c.args.word c.args.owner) e.number e.valid absent _ _ done.value done.owners_value (λ page d. overflows_on page (sym c.in-Overflows.is ∙ d))

@@ -4,16 +4,16 @@ use Rattle.own_stars.proofs.entering.enter_place.Goals as goal
 
 pub returns-then-own-place-eq0 : goal.returns-then-own-place-eq0
 returns-then-own-place-eq0 c =
-    none-entered _ _ _ c.args.t10 c.args.place c.requires.place_lt_places c.if-own-place-eq0.true
+    none-entered _ _ _ c.args.own c.args.place c.requires.place_lt_places c.if-own-place-eq0.true
 
 pub enter_one-requires : goal.enter_one-requires
 enter_one-requires c =
     record {
       ready = c.requires.ready;
       pooled = c.requires.pooled;
-      enterable = one-enterable _ _ _ c.args.t10 c.args.place c.requires.place_lt_places c.if-own-place-eq0.false c.requires.entered_below;
+      enterable = one-enterable _ _ _ c.args.own c.args.place c.requires.place_lt_places c.if-own-place-eq0.false c.requires.entered_below;
     }
 
 pub returns : goal.returns
 returns c =
-    one-entered _ _ _ c.args.t10 c.args.place c.requires.place_lt_places c.if-own-place-eq0.false _ _ c.enter_one.ensures
+    one-entered _ _ _ c.args.own c.args.place c.requires.place_lt_places c.if-own-place-eq0.false _ _ c.enter_one.ensures

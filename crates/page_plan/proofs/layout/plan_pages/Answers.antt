@@ -47,10 +47,10 @@ abbrev start : After-gather-end → Start
 start c = c.before.before.before.before.before.before.before.before.before
 
 abbrev W : After-gather-end → List ℕ
-W c = c.gather-end.new.1.1.0
+W c = c.gather-end.new.waiting
 
 abbrev ends : After-gather-end → List ℕ
-ends c = c.gather-end.new.1.1.1.0
+ends c = c.gather-end.new.ends
 
 ready : (c : After-gather-end) → Started (start c).args.lo (start c).args.count (start c).args.carried (L (start c)) (W c) (ends c)
 ready c = started _ _ _ _ (start c).args.waiting.now _ _ c.gather-end.ensures.scatters (enough (start c)) c.gather-end.auto.waiting
@@ -90,7 +90,7 @@ settle_pages-from-requires c =
         few = omega (arith, p.few, d.gather-end.auto.waiting);
         order = omega (arith, d.gather-end.ensures.value);
         inside = omega (arith, d.gather-end.ensures.value, enough s, d.gather-end.auto.waiting);
-        grouped-are = rw (in_groups_lem d) (started-again _ _ _ _ _ _ (ready d));
+        grouped_are = rw (in_groups_lem d) (started-again _ _ _ _ _ _ (ready d));
         near = rw (carried_here d) p.near;
       };
       spare_bound = omega (arith, d.gather-end.ensures.value, enough s, p.few);
@@ -100,10 +100,10 @@ abbrev gathered : After-settle_pages-from → After-gather-end
 gathered u = u.before.before.before.before.before.before.before.before
 
 -- what is carried past the stretch stands within the list
-within : (u : After-settle_pages-from) → (gathered u).gather-end.result ≤ length u.settle_pages-from.new.1.1.0
+within : (u : After-settle_pages-from) → (gathered u).gather-end.result ≤ length u.settle_pages-from.new.waiting
 within u =
     let d = gathered u in
-    omega (arith, d.gather-end.ensures.value, enough (start d), d.gather-end.kept.1.1.0, u.settle_pages-from.auto.waiting)
+    omega (arith, d.gather-end.ensures.value, enough (start d), d.gather-end.auto.waiting, u.settle_pages-from.auto.waiting)
 
 pub close_up-requires : goal.close_up-requires
 close_up-requires c =
@@ -115,5 +115,5 @@ returns c =
     let u = c.before.before.before.before.before.before.before.before.before.before.before in
     let d = gathered u in
     let up = c.close_up in
-    let planned = planned-closed _ _ _ _ _ _ _ _ _ _ _ _ _ _ (within u) (u.settle_pages-from.ensures.plan (omega arith)) up.ensures.0 up.ensures.1 in
+    let planned = planned-closed _ _ _ _ _ _ _ _ _ _ _ _ _ _ (within u) (u.settle_pages-from.ensures.plan (omega arith)) up.ensures.value up.ensures.waiting_after in
     planned-again _ _ _ _ _ _ _ _ _ _ _ (rw (carried_here d, in_groups_lem d) at planned)

@@ -43,9 +43,9 @@ start d = d.before.before.before.before.before.before.before.before.before.befor
 -- the pages settled by the first ninety
 near : (d : After-settle_run-near) →
     let a = (start d).args in
-    let last = d.settle_run-near.new.1.1 in
+    let last = d.settle_run-near.new in
     Settling a.parameters a.lo a.count a.carried (slice a.carried a.end a.waiting.now) a.waiting.now a.pool.now a.planned.now
-    last.0 last.1.0 last.1.1.0 d.settle_run-near.result.from d.settle_run-near.result.pages
+    last.pool last.waiting last.planned d.settle_run-near.result.from d.settle_run-near.result.pages
 near d =
     let s = start d in
     d.settle_run-near.ensures.continues s.args.carried s.args.pool.now s.args.waiting.now s.args.planned.now s.requires.settleable (settling-none _ _ _ _ _ _ _ _)

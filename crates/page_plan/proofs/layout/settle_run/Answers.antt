@@ -162,7 +162,7 @@ returns-then-not-signs_words c =
     let told = c.signs_words in
     record {
       continues = c.loop-v.invariant;
-      ended = λ long less. absurd (false≢true (sym c.if-not-signs_words.true ∙ told.ensures.1 long));
+      ended = λ long less. absurd (false≢true (sym c.if-not-signs_words.true ∙ told.ensures.value long));
     }
 
 abbrev turn : After-settle_page-arg-in-loop-v-2-1 → In-loop-v
@@ -182,8 +182,8 @@ settle_page-from-requires c =
       probing = probing i;
       signable = told.signs_words.ensures.signable told.if-not-signs_words.false;
       page_in_bounds = (
-        omega (arith, p.of_planned, (settling k).long_planned, i.loop-v-test.taken),
-        rw (settling k).long_pool (page-inside a.lo k.loop-v.v a.count a.parameters.places _ i.loop-v-test.taken p.of_pool),
+        omega (arith, p.of_planned, (settling k).long_planned, i.loop-v-test.true),
+        rw (settling k).long_pool (page-inside a.lo k.loop-v.v a.count a.parameters.places _ i.loop-v-test.true p.of_pool),
       );
     }
 
@@ -194,15 +194,15 @@ pub overflow_add-v : goal.overflow_add-v
 overflow_add-v c = record { fits = omega (arith, (probing (turn (settled c.before).before)).page) }
 
 pub loop-v-smaller : goal.loop-v-smaller
-loop-v-smaller c = omega (arith, (turn (settled c.before).before).loop-test.taken)
+loop-v-smaller c = omega (arith, (turn (settled c.before).before).loop-v-test.true)
 
 pub loop-v-preserved : goal.loop-v-preserved
 loop-v-preserved c =
     λ carried P W S p begun.
     let i = turn (settled c.before).before in
     let d = (settled c.before).settle_page-from in
-    let here = i.before.loop.inv carried P W S p begun in
-    settling-next _ _ _ _ _ _ _ _ _ p.grouped_are _ _ _ _ _ here i.loop-test.taken _ (p.grouped_are.ended _ i.loop-test.taken) _ _ _ _ d.ensures p.of_pool p.of_planned d.kept.1.1.0 d.kept.1.1.1.0 d.kept.1.1.1.1.0
+    let here = i.before.loop-v.invariant carried P W S p begun in
+    settling-next _ _ _ _ _ _ _ _ _ p.grouped_are _ _ _ _ _ here i.loop-v-test.true _ (p.grouped_are.ended _ i.loop-v-test.true) _ _ _ _ d.ensures p.of_pool p.of_planned d.auto.pool d.auto.waiting d.auto.planned
 
 pub shape_of-pool : goal.shape_of-pool
 shape_of-pool c = same-pool c.before.before

@@ -3,7 +3,6 @@ use Prim.Native.Nat.{◌+◌, ◌-◌, ◌*◌, ◌≤◌}
 use native.Mathlib.Omega.{arith}
 use lib.ListN.{length}
 use borrow.Author.Rules.{rules}
-use borrow.Author.Tests.{ltb-true}
 use Rattle.placement.specs.File.{File}
 use Rattle.placement.specs.Hash.{lent}
 use Rattle.reach.proofs.Surveyed.{stretch-fits, lowest_first_lem}
@@ -23,7 +22,7 @@ survey_around-requires c =
     record {
       ready = p.ready;
       homes_len = p.homes_len;
-      from_le_known = (c.if-from-known.true, ltb-true s.args.known s.args.stop c.if-known-stop.true);
+      from_le_known = (c.if-from-known.true, c.if-known-stop.true);
       stop_le_pages = p.stop_le_pages;
       known = p.known;
     }

@@ -1,17 +1,9 @@
 -- `report_filing::filing::file_reports` meets its contract.
-use mathlib.Core.Path.{◌≡◌, sym, ◌∙◌}
-use mathlib.Core.Bool.{true}
 use Prim.Native.Nat.{◌-◌}
-use native.Mathlib.Omega.{arith}
-use lib.ListN.{length}
 use Rattle.placement.specs.Hash.{lent}
-use Rattle.placement.proofs.Prepared.{ready}
-use Rattle.calls.specs.Answers.{Pool, pooled, cleared}
-use Rattle.calls.specs.Calls.{pool_fits_lem}
+use Rattle.calls.specs.Answers.{pooled, cleared}
 use Rattle.calls.specs.Records.{closed_record}
-use Rattle.call_guard.proofs.Admitting.{tabled}
-use Rattle.report_filing.proofs.Ordered.{Ongoing, ordered-none, ordered-more, ordered-stop, ordered-all, cleared-pool}
-use borrow.Author.Rules.{rules}
+use Rattle.report_filing.proofs.Ordered.{Ongoing}
 use Rattle.report_filing.proofs.filing.file_reports.Given as goal
 
 abbrev pub invariant-loop-filed : goal.invariant-loop-filed

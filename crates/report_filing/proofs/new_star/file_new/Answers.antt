@@ -8,45 +8,39 @@ use Rattle.entry_reach.specs.Entry.{new_star_lem}
 use Rattle.call_enter.proofs.Outcomes.{entry-small}
 use Rattle.reports.specs.Reports.{is_removal}
 use Rattle.report_filing.proofs.Searched.{place_here, absent_here, position-valid, filed-entry}
-use borrow.Author.Rules.{rules}
 use Rattle.report_filing.proofs.new_star.file_new.Goals as goal
-use Rattle.report_filing.proofs.new_star.file_new.Goals.{Start}
-
-entering : (s : Start) → is_removal s.args.report ≡ false
-entering s = ap not (eq-eqb _ 0 s.requires.held_value.1)
 
 pub pack-word-requires : goal.pack-word-requires
 pack-word-requires c =
-    let s = c.before.before.before.before.before.before.before.before.before in
-    rw c.position_of.ensures (position-valid s.requires.ready s.requires.sought (entering s))
+    let entering : is_removal c.args.report ≡ false = ap not (eq-eqb _ 0 c.requires.held_value.1) in
+    rw c.position_of.ensures (position-valid c.requires.ready c.requires.sought entering)
 
 pub enter_star-requires : goal.enter_star-requires
 enter_star-requires c =
-    let s = c.before.before.before.before.before.before.before.before.before.before.before.before.before.before.before.before.before in
-    let t = s.requires.sought in record {
+    let t = c.requires.sought in
+    record {
       enters = record {
-        ready = s.requires.ready;
+        ready = c.requires.ready;
         number = t.number;
-        unheld = absent_here s.requires.ready t s.requires.held_value.0;
+        unheld = absent_here c.requires.ready t c.requires.held_value.0;
         homed = t.named.home_is;
         here = t.named.page_is;
       };
-      pooled = s.requires.pooled;
+      pooled = c.requires.pooled;
       known = t.known;
-      place_value = place_here s.requires.ready t;
+      place_value = place_here c.requires.ready t;
     }
 
 pub placed_from-requires : goal.placed_from-requires
 placed_from-requires c =
-    let s = c.before.before.before.before.before.before.before.before.before.before.before.before.before.before.before.before.before.before.before.before.before.before.before.before.before.before.before.before.before.before.before.before.before in
+    let homing = c.requires.ready.homing in
     rw c.enter_star.ensures.value
-    (entry-small s.args.geometry.parameters s.args.geometry.growth (lent s.args.separators.now s.args.numbers.now s.args.words.now s.args.owners.now)
-    s.requires.ready.homing.valid s.requires.ready.homing.growth (new_star_lem s.args.report.number c.pack-word.result s.args.report.owner))
+    (entry-small c.args.geometry.parameters c.args.geometry.growth (lent c.args.separators.now c.args.numbers.now c.args.words.now c.args.owners.now)
+    homing.valid homing.growth (new_star_lem c.args.report.number c.pack-word.result c.args.report.owner))
 
 pub returns : goal.returns
 returns c pool fits =
-    let s = c.before.before.before.before.before.before.before.before.before.before.before.before.before.before.before.before.before.before.before.before.before.before.before.before.before.before.before.before.before.before.before.before.before.before in
-    let packing = c.before.before.before.before.before.before.before.before.before.before.before.before.before.before.before.before.before.before.before.before.before.before.before.before.before in
+    let entering : is_removal c.args.report ≡ false = ap not (eq-eqb _ 0 c.requires.held_value.1) in
     let done = c.enter_star.ensures in
-    filed-entry s.requires.ready s.requires.sought pool fits s.requires.held_value.0 (entering s)
-    packing.pack-word.result (packing.pack-word.ensures ∙ ap packed packing.position_of.ensures) _ _ _ c.placed_from.ensures done.value done.owners_value
+    filed-entry c.requires.ready c.requires.sought pool fits c.requires.held_value.0 entering
+    c.pack-word.result (c.pack-word.ensures ∙ ap packed c.position_of.ensures) _ _ _ c.placed_from.ensures done.value done.owners_value

@@ -1,7 +1,6 @@
 use mathlib.Core.Path.{ap, ◌∙◌}
 use borrow.Author.Tests.{eq-eqb, ne_eqb}
 use Rattle.pages.specs.Position.{valid_position}
-use borrow.Author.Rules.{rules}
 use Rattle.report_filing.proofs.positions.position_fits.Goals as goal
 
 pub returns-then-report-ne0 : goal.returns-then-report-ne0

@@ -1,4 +1,6 @@
-use Prim.Native.Nat.{◌*◌, ◌-◌, ◌≤◌}
+use mathlib.Core.List.{List}
+use Rattle.lines.specs.Replies.{TextAt}
+use Prim.Native.Nat.{ℕ, ◌*◌, ◌-◌, ◌≤◌}
 use native.Mathlib.Numerals.{add-one}
 use native.Mathlib.Omega.{arith}
 use mathlib.Core.Path.{◌≡◌, ap, ◌∙◌}
@@ -7,16 +9,10 @@ use lib.Seq.{take_all, length-sets}
 use Rattle.lines.specs.Programs.{Stands}
 use Rattle.lines.proofs.Programs.{start-stands, block_more}
 use Rattle.sessions.specs.Commands.{answering, run_in}
-use Rattle.sessions.proofs.blocks.answer_block.Lts as lts
-use Rattle.sessions.proofs.blocks.answer_block.Tie as tie
-use Rattle.sessions.proofs.blocks.answer_block.Reads as reads
 use Rattle.sessions.proofs.blocks.answer_block.Goals as goal
 
-abbrev At-loop-i : Type 0
-At-loop-i = lts.At-loop tie.the-claims reads.Pre reads.Post goal.the-invariant-loop-i goal.the-decreases-loop-i
-
-same_size : (c : At-loop-i) → length c.loop-i.out ≡ length c.args.out.now
-same_size c = ap length c.loop-i.invariant.2.text.buffer ∙ simp length-sets
+same_size : (before text after : List ℕ) (at next : ℕ) → TextAt at text before after next → length after ≡ length before
+same_size before text after at next w = ap length w.buffer ∙ simp length-sets
 
 pub loop-i-init : goal.loop-i-init
 loop-i-init c = (omega arith, omega arith, start-stands _ _ _ _)
@@ -26,7 +22,7 @@ bounds-block-i c = omega arith
 
 pub take_byte-step-requires : goal.take_byte-step-requires
 take_byte-step-requires c =
-    omega (arith, same_size c.before, c.loop-i-test.true, c.requires)
+    omega (arith, same_size _ _ _ _ _ c.loop-i.invariant.2.text, c.loop-i-test.true, c.requires)
 
 pub overflow_add-i : goal.overflow_add-i
 overflow_add-i c = omega arith
@@ -43,7 +39,7 @@ loop-i-preserved c =
     )
 
 pub shape_of-out : goal.shape_of-out
-shape_of-out c = same_size c.before.before
+shape_of-out c = same_size _ _ _ _ _ c.loop-i.invariant.2.text
 
 pub returns : goal.returns
 returns c =

@@ -8,5 +8,6 @@ use Rattle.sessions.proofs.commands.empty_file.Goals as goal
 pub returns : goal.returns
 unfolding state_in new_file make_of file_fits_lem starline valid_parameters valid_multiplier within
 returns c =
-    let made = rw c.parameters.ensures at c.make-made.ensures in
-    λ i. record { growth = (made.1 i).state; file = made.0.files i }
+    let leaves = rw c.parameters.ensures at c.make-made.ensures.leaves in
+    let after = rw c.parameters.ensures at c.make-made.ensures.growth_after in
+    λ i. record { growth = (after i).state; file = leaves.files i }

@@ -10,6 +10,6 @@ pub returns : goal.returns
 unfolding state_in pool commanded reply_with enter_under valid_steps
 returns c =
     follows _ _ _ (placed c.enter-answer.result) _
-    (rw c.parameters.ensures at c.enter-answer.ensures)
+    (rw c.parameters.ensures at c.enter-answer.ensures.leaves)
     (sym (enter_keeps _ _ _ _ _ _ _))
     (c.placed_reply.ensures ∙ ap placed_reply_lem c.placed_answer.ensures)

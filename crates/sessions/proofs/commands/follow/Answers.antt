@@ -8,19 +8,19 @@ use Rattle.sessions.proofs.commands.follow.Goals as goal
 
 pub returns-in-Enter : goal.returns-in-Enter
 returns-in-Enter c =
-    let dec = c.command-1.given.0.1.1.0 in
+    let dec = c.in-Enter.dec in
     let back : to_z w32 (of_z w32 dec) ≡ dec = search rules in
-    rw c.command-1.given.1 (rw back at c.enter.ensures)
+    rw c.in-Enter.is (rw back at c.enter.ensures)
 
 pub returns-in-LookUp : goal.returns-in-LookUp
-returns-in-LookUp c = rw c.command-in-LookUp-1.given.1 (record { replies = c.look_up.ensures; leaves = sym (looked_keeps _ _) })
+returns-in-LookUp c = rw c.in-LookUp.is (record { replies = c.look_up.ensures; leaves = sym (looked_keeps _ _) })
 
 pub returns-in-Remove : goal.returns-in-Remove
-returns-in-Remove c = rw c.command-in-Remove-1.given.1 c.remove.ensures
+returns-in-Remove c = rw c.in-Remove.is c.remove.ensures
 
 pub returns-in-Grow : goal.returns-in-Grow
-returns-in-Grow c = rw c.enum_told-1.given.1 c.grow.ensures
+returns-in-Grow c = rw c.in-Grow.is c.grow.ensures
 
 pub returns-in-Bad : goal.returns-in-Bad
 unfolding commanded reply_with reply_to next_session
-returns-in-Bad c = rw c.enum_told-in-Bad-1.given.1 (record { replies = refl; leaves = refl })
+returns-in-Bad c = rw c.in-Bad.is (record { replies = refl; leaves = refl })

@@ -10,6 +10,7 @@ use Rattle.sessions.proofs.commands.grow.Goals as goal
 pub returns : goal.returns
 unfolding state_in pool commanded reply_with grow_under valid_steps
 returns c =
-    let grown = rw c.parameters.ensures at c.grow-grown.ensures in
-    follows _ _ _ (placed c.grow-grown.result.answer) _ grown.0 (ap (λ (r : GrowthRecord). r.state) grown.1)
+    let leaves = rw c.parameters.ensures at c.grow-grown.ensures.leaves in
+    let after = rw c.parameters.ensures at c.grow-grown.ensures.growth_after in
+    follows _ _ _ (placed c.grow-grown.result.answer) _ leaves (ap (λ (r : GrowthRecord). r.state) after)
     (c.placed_reply.ensures ∙ ap placed_reply_lem c.placed_answer.ensures)

@@ -7,5 +7,5 @@ use Rattle.sessions.proofs.commands.look_up.Goals as goal
 pub returns : goal.returns
 unfolding state_in commanded reply_with reply_to look_up_under valid_steps
 returns c =
-    let looked = rw c.parameters.ensures at c.look_up-found.ensures in
+    let looked = rw c.parameters.ensures at c.look_up-found.ensures.answer in
     c.found_reply.ensures ∙ ap found_reply_lem (c.sought_answer.ensures ∙ looked)

@@ -10,6 +10,6 @@ pub returns : goal.returns
 unfolding state_in pool commanded reply_with remove_under valid_steps
 returns c =
     follows _ _ _ (placed c.remove-answer.result) _
-    (rw c.parameters.ensures at c.remove-answer.ensures)
+    (rw c.parameters.ensures at c.remove-answer.ensures.leaves)
     (sym (remove_keeps _ _ _ _ _ _))
     (c.placed_reply.ensures ∙ ap placed_reply_lem c.placed_answer.ensures)

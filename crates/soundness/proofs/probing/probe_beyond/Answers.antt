@@ -9,7 +9,7 @@ pub probe_by_16807-requires : goal.probe_by_16807-requires
 probe_by_16807-requires c =
     let p = c.requires in
     record {
-      parameters_value = (((p.parameters_value, the_other _ (limits _ p.parameters_value).multiplier_valid c.if-parameters-eq48271.false), p.1)).0;
-      home_le_start = (((p.parameters_value, the_other _ (limits _ p.parameters_value).multiplier_valid c.if-parameters-eq48271.false), p.1)).1.0;
-      number_value = (((p.parameters_value, the_other _ (limits _ p.parameters_value).multiplier_valid c.if-parameters-eq48271.false), p.1)).1.1;
+      parameters_value = (p.parameters_value, the_other _ (limits _ p.parameters_value).multiplier_valid c.if-parameters-eq48271.false);
+      home_le_start = p.home_le_start;
+      number_value = p.number_value;
     }

@@ -22,7 +22,7 @@ passes-requires c =
     let s = c.before.before.before.before.before.before.before.before in
     record {
       signers = s.requires.signers;
-      home_le_page = (omega arith, (omega (arith, pages-most s), omega (arith, s.requires.1)));
+      home_le_page = (omega arith, (omega (arith, pages-most s), omega (arith, s.requires.separators_len, s.requires.page_lt_pages)));
       home_in_bounds = omega (arith, s.requires.page_lt_pages.1);
     }
 
@@ -38,9 +38,9 @@ probe-requires c =
     let s = c.before.before.before.before.before.before.before.before in
     let low : s.args.home ≤ s.args.page = omega arith in record {
       signers = s.requires.signers;
-      home_le_start = (omega arith, (omega arith, omega (arith, s.requires.1)));
+      home_le_start = (omega arith, (omega arith, omega (arith, s.requires.separators_len, s.requires.page_lt_pages)));
       stop_bound = (omega (arith, pages-most s, s.requires.page_lt_pages.0), omega (arith, s.requires.page_lt_pages.1));
-      number_value = none_first _ _ _ _ (omega (arith, s.requires.1));
+      number_value = none_first _ _ _ _ (omega (arith, s.requires.separators_len, s.requires.page_lt_pages));
     }
 
 pub returns : goal.returns

@@ -48,7 +48,7 @@ loop-i-preserved c =
     let l = c.loop-i in
     let d = c.find_block-i in (
       upto c.before,
-      d.auto.homes.1.1.1.1.0 ∙ l.invariant.1,
+      d.auto.homes ∙ l.invariant.1,
       homes-next s.args.geometry s.args.numbers.now s.args.homes.now l.homes _ s.args.to s.args.first l.i d.result
           (omega (arith, s.requires.in_bounds.1)) (omega (arith, s.requires.in_bounds.0, l.invariant.0)) l.invariant.2 d.ensures.homes_after,
     )

@@ -1,6 +1,5 @@
 -- `soundness::stretches::first_unsound_near` meets its contract. The invariant: the pages before this one are sound.
 use mathlib.Core.Path.{sym, ◌∙◌, ap}
-use mathlib.Core.Logic.{⊎_elim}
 use Prim.Native.Nat.{◌+◌, ◌-◌, ◌*◌, ◌<◌}
 use native.Mathlib.Omega.{arith}
 use borrow.Author.Rules.{rules}
@@ -17,7 +16,7 @@ use Rattle.soundness.proofs.stretches.first_unsound_near.Lts as lts
 use Rattle.soundness.proofs.stretches.first_unsound_near.Tie as tie
 use Rattle.soundness.proofs.stretches.first_unsound_near.Reads as reads
 use Rattle.soundness.proofs.stretches.first_unsound_near.Goals as goal
-use Rattle.soundness.proofs.stretches.first_unsound_near.Goals.{Start}
+use Rattle.soundness.proofs.stretches.first_unsound_near.Goals.{Start, then-not-sound_at_home+else-count_far-ne0+else-not-lent_sound, else-not-sound_at_home}
 
 abbrev In-loop-page : Type 0
 In-loop-page = lts.In-loop tie.the-claims reads.Pre reads.Post goal.the-invariant-loop-page goal.the-decreases-loop-page tie.handed_clauses
@@ -64,8 +63,8 @@ homes-of : (c : In-loop-page) →
 homes-of l =
     let s = start l in
     let b = s.args.geometry.parameters.places in
-    homes-here s.args.geometry (file s) s.args.homes.now s.args.to s.args.from l.before.loop.page s.args.stop s.requires.ready.sized l.before.loop.invariant.low s.requires.from_le_stop.1 s.requires.places_in_bounds b s.requires.homes_at
-    (page-items b s.args.from l.before.loop.page s.args.stop l.before.loop.invariant.low l.loop-test.true)
+    homes-here s.args.geometry (file s) s.args.homes.now s.args.to s.args.from l.loop-page.page s.args.stop s.requires.ready.sized l.loop-page.invariant.low s.requires.from_le_stop.1 s.requires.places_in_bounds b s.requires.homes_at
+    (page-items b s.args.from l.loop-page.page s.args.stop l.loop-page.invariant.low l.loop-page-test.true)
 
 pub sound_at_home-requires : goal.sound_at_home-requires
 sound_at_home-requires c =
@@ -139,7 +138,10 @@ loop-page-preserved c =
     let s = start l in
     passed-next l.loop-page.invariant l.loop-page-test.true
     (sym (sound-own s.args.geometry (file s) l.loop-page.page)
-    ∙ ⊎_elim (λ w. passed _ _ w.4.ensures w.5.left) (λ w. c.sound_at_home.ensures (not-false _ w.left)) c.if-not-sound_at_home.branch)
+    ∙ elim c.if-not-sound_at_home.branch [
+      | then-not-sound_at_home+else-count_far-ne0+else-not-lent_sound w ↦ passed _ _ w.lent_sound.ensures (ap not w.if-not-lent_sound.false)
+      | else-not-sound_at_home w ↦ c.sound_at_home.ensures w.if-not-sound_at_home.false
+    ])
 
 pub returns : goal.returns
 returns c = passed-all c.loop-page.invariant c.loop-page-test.false

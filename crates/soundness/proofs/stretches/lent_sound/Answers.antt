@@ -89,13 +89,13 @@ pub admitted-item-requires : goal.admitted-item-requires
 admitted-item-requires c =
     let l = c.before.before.before.before.before in
     let s = start l in
-    let p = s.requires.1.1 in
+    let p = s.requires in
     record {
       signers = s.requires.signers;
       separators_len = s.requires.separators_len;
-      page_lt_pages = p.0;
-      home_value = λ h m. star-home _ _ _ _ _ (p.1.1.0 l.loop-i.i l.loop-i-test.true) h;
-      home_in_bounds = p.1.1.1 l.loop-i.i l.loop-i-test.true;
+      page_lt_pages = p.page_lt_pages;
+      home_value = λ h m. star-home _ _ _ _ _ (p.homes_at l.loop-i.i l.loop-i-test.true) h;
+      home_in_bounds = p.signable_at l.loop-i.i l.loop-i-test.true;
     }
 
 pub returns-then-not-item : goal.returns-then-not-item
@@ -103,7 +103,7 @@ returns-then-not-item c =
     let l = c.before.before.before.before.before.before.before.before in
     let s = (start l).args in
     page-refused s.geometry s.separators.now s.numbers.now s.words.now s.owners.now s.at s.page
-    (lent-refused _ _ _ _ s.numbers.now s.words.now s.owners.now s.at l.loop-i.invariant.1 l.loop-i-test.true (failed _ _ c.admitted-item.ensures.sound ((ap not ap) not c.if-not-item.true)))
+    (lent-refused _ _ _ _ s.numbers.now s.words.now s.owners.now s.at l.loop-i.invariant.1 l.loop-i-test.true (failed _ _ c.admitted-item.ensures.sound c.if-not-item.true))
 
 pub loop-i-smaller : goal.loop-i-smaller
 loop-i-smaller c = omega (arith, c.loop-i-test.true)
@@ -112,7 +112,7 @@ pub loop-i-preserved : goal.loop-i-preserved
 loop-i-preserved c =
     let l = c.before.before.before.before.before.before.before.before in
     let item = c.admitted-item.ensures in
-    let taken = c.if-not-item.false in
+    let taken = not-false _ c.if-not-item.false in
     let s = (start l).args in
     (omega (arith, l.loop-i-test.true), lent-more _ _ _ _ s.numbers.now s.words.now s.owners.now s.at l.loop-i.invariant.1 l.loop-i-test.true (sym item.sound ∙ taken) (item.last taken))
 

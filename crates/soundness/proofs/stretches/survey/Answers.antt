@@ -25,16 +25,13 @@ find_homes-requires c =
       in_bounds = (within s, s.requires.places_in_bounds);
     }
 
-abbrev start : tie.After-first-unsound-near-arg → Start
-start c = c.before.before.before.before.before.before.before.before.before.before.before
-
 pub first_unsound_near-requires : goal.first_unsound_near-requires
 first_unsound_near-requires c =
-    let s = start c in
+    let s = c.before.before.before.before.before.before.before.before.before.before.before in
     let b = s.args.geometry.parameters.places in
     let d = c.find_homes in record {
       ready = s.requires.ready;
       from_le_stop = s.requires.from_le_stop;
-      places_in_bounds = omega (arith, s.requires.places_in_bounds, d.auto.1.1.1.1.1.0);
+      places_in_bounds = omega (arith, s.requires.places_in_bounds, d.auto.homes);
       homes_at = homes-put s.args.geometry s.args.numbers.now s.args.homes.now _ (s.args.from * b) s.args.to ((s.args.stop - s.args.from) * b) s.requires.places_in_bounds (within s) d.ensures;
     }

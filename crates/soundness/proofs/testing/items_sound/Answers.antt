@@ -38,15 +38,15 @@ pub admitted-item-requires : goal.admitted-item-requires
 admitted-item-requires c =
     let s = c.before.before.before.before.before.before.before.before.before.before.before.before.before.before.before in
     let loop = c.loop-i in
-    let p = s.requires.1 in
+    let p = s.requires in
     let ns = s.args.numbers.now in
     let inside = c.loop-i-test.true in
     record {
       signers = s.requires.signers;
-      separators_len = p.0.separated;
-      page_lt_pages = p.0.inside;
-      home_value = λ h m. c.wide.ensures.0 ∙ p.0.homed loop.i inside (first-led ns loop.i loop.last loop.invariant.3 h m);
-      home_in_bounds = λ star. omega (arith, c.wide.ensures.0, p.1 loop.i (omega arith) star);
+      separators_len = p.testable.separated;
+      page_lt_pages = p.testable.inside;
+      home_value = λ h m. c.wide.ensures.0 ∙ p.testable.homed loop.i inside (first-led ns loop.i loop.last loop.invariant.3 h m);
+      home_in_bounds = λ star. omega (arith, c.wide.ensures.0, p.signable_on loop.i (omega arith) star);
     }
 
 pub returns-then-not-item : goal.returns-then-not-item
@@ -55,7 +55,7 @@ returns-then-not-item c =
     let item = c.admitted-item.ensures in
     let inside = c.loop-i-test.true in
     let done = c.loop-i.invariant.2 in
-    let refused = admitting-refused _ _ _ _ done.admitting inside (failed _ _ item.sound ((ap not ap) not c.if-not-item.true)) in
+    let refused = admitting-refused _ _ _ _ done.admitting inside (failed _ _ item.sound c.if-not-item.true) in
     record { sound = simp (refused, and-false); long = done.long; homed = λ e. absurd (false≢true e) }
 
 abbrev start_of : Else-not-item → Start
@@ -64,7 +64,7 @@ start_of c = c.before.before.before.before.before.before.before.before.before.be
 pub loop-i-preserved : goal.loop-i-preserved
 loop-i-preserved c =
     let item = c.admitted-item in
-    let taken = c.if-not-item.false in (
+    let taken = not-false _ c.if-not-item.false in (
       search rules,
       search rules,
       surveyed-more _ _ _ _ c.loop-i.invariant.2 (search rules) (search rules) (sym item.ensures.sound ∙ taken) (item.ensures.home taken) (item.ensures.last taken),

@@ -51,7 +51,7 @@ low-page : (c : After-of_page) → (start c).args.page < 1024
 low-page c = omega (arith, (start c).requires.page_lt_pages, (limits _ (start c).requires.homing.valid).pages_most)
 
 -- the homes before the first empty place are found
-homed : (c : After-of_page) → Found (start c).args.geometry (start c).args.numbers.now c.of_page.new.pages.1.1.1.0
+homed : (c : After-of_page) → Found (start c).args.geometry (start c).args.numbers.now c.of_page.new.pages
 homed c =
     let s = start c in
     let led = c.occupied_places-occupied.ensures in
@@ -63,16 +63,16 @@ count_far-requires c = low-page c.before.before
 
 testable : (c : After-of_page) →
     let a = (start c).args in
-    Testable a.geometry a.separators.now a.page a.numbers.now a.words.now a.owners.now c.of_page.new.pages.1.1.1.0 a.homes.now
+    Testable a.geometry a.separators.now a.page a.numbers.now a.words.now a.owners.now c.of_page.new.pages a.homes.now
 testable c =
     let p = (start c).requires in
     record {
-      separated = p.1.0;
-      inside = p.1.1.0;
-      numbers = p.1.1.1.0.0;
-      words = p.1.1.1.0.1.0;
-      owners = p.1.1.1.0.1.1;
-      homes = p.1.1.1.1;
+      separated = p.separators_len;
+      inside = p.page_lt_pages;
+      numbers = p.numbers_len.0;
+      words = p.numbers_len.1.0;
+      owners = p.numbers_len.1.1;
+      homes = p.homes_len;
       topped = rw c.top_of.ensures at c.if-top_of-separators.false;
       homed = homed c;
     }

@@ -5,7 +5,6 @@ use native.Mathlib.Numerals.{add-one}
 use borrow.Author.Tests.{eq-eqb, ne_eqb}
 use Rattle.hashing.proofs.Bounds.{passed, failed}
 use Rattle.starfile.specs.Steps.{advanced_by}
-use borrow.Author.Rules.{rules}
 use mathlib.Core.Bool.{not}
 use Rattle.starfile.proofs.advancing.advanced.Goals as goal
 
@@ -16,12 +15,10 @@ returns-then-not-accepted c = rw (failed _ _ c.accepted.ensures (ap not c.if-not
 pub returns-then-steps-parameters : goal.returns-then-steps-parameters
 unfolding advanced_by
 returns-then-steps-parameters c =
-    let s = c.before.before.before.before.before.before in
-    let last : suc s.args.growth.steps ≡ s.args.parameters.pages = sym (add-one s.args.growth.steps) ∙ c.if-steps-parameters.true in
+    let last : suc c.args.growth.steps ≡ c.args.parameters.pages = sym (add-one c.args.growth.steps) ∙ c.if-steps-parameters.true in
     rw (passed _ _ c.accepted.ensures (ap not c.if-not-accepted.false), eq-eqb _ _ last, c.at_rest_after.ensures)
 
 pub returns : goal.returns
 unfolding advanced_by
 returns c =
-    let s = c.before.before.before.before.before.before in
-    rw (passed _ _ c.accepted.ensures (ap not c.if-not-accepted.false), ne_eqb (suc s.args.growth.steps) s.args.parameters.pages (λ e. c.if-steps-parameters.false (add-one s.args.growth.steps ∙ e)), add-one s.args.growth.steps)
+    rw (passed _ _ c.accepted.ensures (ap not c.if-not-accepted.false), ne_eqb (suc c.args.growth.steps) c.args.parameters.pages (λ e. c.if-steps-parameters.false (add-one c.args.growth.steps ∙ e)), add-one c.args.growth.steps)

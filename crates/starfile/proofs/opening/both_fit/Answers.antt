@@ -1,6 +1,5 @@
 -- `starfile::opening::both_fit` meets its contract.
 use Rattle.hashing.proofs.Bounds.{passed, failed}
-use borrow.Author.Rules.{rules}
 use mathlib.Core.Path.{ap}
 use mathlib.Core.Bool.{not}
 use Rattle.starfile.proofs.opening.both_fit.Goals as goal

@@ -2,7 +2,6 @@
 use Rattle.hashing.proofs.Bounds.{passed, failed}
 use Rattle.calls.specs.Answers.{sought, refused_by}
 use Rattle.calls.specs.Records.{look_up_under}
-use borrow.Author.Rules.{rules}
 use mathlib.Core.Path.{ap}
 use mathlib.Core.Bool.{not}
 use Rattle.starfile.proofs.reading.look_up.Goals as goal

@@ -4,7 +4,6 @@ use Rattle.calls.specs.Answers.{placed}
 use Rattle.calls.specs.Calls.{file_fits_lem}
 use Rattle.calls.specs.Stores.{change_stopped_under}
 use Rattle.call_guard.proofs.Turned.{measured, in_turn_lem}
-use borrow.Author.Rules.{rules}
 use mathlib.Core.Path.{ap}
 use mathlib.Core.Bool.{not}
 use Rattle.starfile.proofs.stopping.change_stopped.Goals as goal
