@@ -1,6 +1,6 @@
 // Whether growth is due.
 ghost use Rattle.std.specs.Prelude.{◌≡◌, ◌+◌, ◌-◌, ◌/◌, ◌≤◌, ◌<◌, max, length};
-ghost use Rattle.placement.specs.Lent.{before};
+ghost use Rattle.placement.specs.Lent.{held};
 ghost use Rattle.calls.specs.Answers.{unpooled, due_said};
 ghost use Rattle.calls.specs.Calls.{due_of};
 ghost use Rattle.calls.specs.Due.{stars};
@@ -18,7 +18,7 @@ pub fn due(
     words: &[u64],
     owners: &[u8],
 ) -> Due
-    ensures { due_said result ≡ (due_of parameters growth (before separators numbers words owners) unpooled).answer }
+    ensures { due_said result ≡ (due_of parameters growth (held separators.now numbers.now words.now owners.now) unpooled).answer }
 {
     let fits = file_fits(
         parameters,

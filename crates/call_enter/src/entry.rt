@@ -3,13 +3,14 @@ ghost use Rattle.std.specs.Prelude.{◌≡◌, true};
 ghost use Rattle.pages.specs.Position.{valid_number};
 ghost use Rattle.placement.specs.Ready.{Pooled};
 ghost use Rattle.placement.specs.Rule.{star_with};
-ghost use Rattle.calls.specs.Answers.{pooled, Leaves, cleared, placed};
+ghost use Rattle.calls.specs.Answers.{Leaves, cleared, placed};
 ghost use Rattle.calls.specs.Shape.{Stores};
 ghost use Rattle.calls.specs.Calls.{enter_of, cascade_of, named};
 ghost use Rattle.calls.specs.Stores.{enter_stopped_of};
 ghost use Rattle.call_enter.specs.Entries.{entry_on, entered_by, unless_cascading};
 ghost use Rattle.calls.specs.Shape.{Admitted};
-ghost use Rattle.placement.specs.Hash.{lent};
+ghost use Rattle.placement.specs.Lent.{held, before, after};
+ghost use Rattle.calls.specs.Lent.{pool_before, pool_after_lem};
 
 use call_guard::{all_fit, guard};
 use calls::answers::{Admission, Placed, Refusal};
@@ -34,8 +35,8 @@ pub fn enter(
     number: u32,
     position: Position,
 ) -> Placed
-    ensures { Leaves (enter_of parameters growth (lent separators.old numbers.old words.old owners.old) (pooled poolnumbers.old poolwords.old poolowners.old) caller number position)
-        (placed result) (lent separators.new numbers.new words.new owners.new) (pooled poolnumbers.new poolwords.new poolowners.new) }
+    ensures { Leaves (enter_of parameters growth (before separators numbers words owners) (pool_before poolnumbers poolwords poolowners) caller number position)
+        (placed result) (after separators numbers words owners) (pool_after_lem poolnumbers poolwords poolowners) }
 {
     enter_by(
         parameters,
@@ -71,8 +72,8 @@ pub fn enter_stopped(
     position: Position,
     stores: u32,
 ) -> Placed
-    ensures { Leaves (enter_stopped_of parameters growth (lent separators.old numbers.old words.old owners.old) (pooled poolnumbers.old poolwords.old poolowners.old) caller number position stores)
-        (placed result) (lent separators.new numbers.new words.new owners.new) (pooled poolnumbers.new poolwords.new poolowners.new) }
+    ensures { Leaves (enter_stopped_of parameters growth (before separators numbers words owners) (pool_before poolnumbers poolwords poolowners) caller number position stores)
+        (placed result) (after separators numbers words owners) (pool_after_lem poolnumbers poolwords poolowners) }
 {
     enter_by(
         parameters,
@@ -107,8 +108,8 @@ pub fn cascade(
     number: u32,
     position: Position,
 ) -> Placed
-    ensures { Leaves (cascade_of parameters growth (lent separators.old numbers.old words.old owners.old) (pooled poolnumbers.old poolwords.old poolowners.old) caller number position)
-        (placed result) (lent separators.new numbers.new words.new owners.new) (pooled poolnumbers.new poolwords.new poolowners.new) }
+    ensures { Leaves (cascade_of parameters growth (before separators numbers words owners) (pool_before poolnumbers poolwords poolowners) caller number position)
+        (placed result) (after separators numbers words owners) (pool_after_lem poolnumbers poolwords poolowners) }
 {
     enter_by(
         parameters,
@@ -145,9 +146,9 @@ fn enter_by(
     position: Position,
     stores: u32,
 ) -> Placed
-    ensures { Leaves (unless_cascading cascading parameters (lent separators.old numbers.old words.old owners.old) stores
-        (entered_by cascading parameters growth (lent separators.old numbers.old words.old owners.old) (pooled poolnumbers.old poolwords.old poolowners.old) caller number position))
-        (placed result) (lent separators.new numbers.new words.new owners.new) (pooled poolnumbers.new poolwords.new poolowners.new) }
+    ensures { Leaves (unless_cascading cascading parameters (before separators numbers words owners) stores
+        (entered_by cascading parameters growth (before separators numbers words owners) (pool_before poolnumbers poolwords poolowners) caller number position))
+        (placed result) (after separators numbers words owners) (pool_after_lem poolnumbers poolwords poolowners) }
 {
     let fits = all_fit(
         parameters,
@@ -206,13 +207,13 @@ fn enter_star(
     word: u64,
     stores: u32,
 ) -> Placed
-    requires admitted { Admitted parameters growth (lent separators.old numbers.old words.old owners.old) }
+    requires admitted { Admitted parameters growth (held separators.old numbers.old words.old owners.old) }
     requires pooled { Pooled parameters poolnumbers.old poolwords.old poolowners.old }
     requires number_value { valid_number number ≡ true }
-    ensures { Stores (unless_cascading cascading parameters (lent separators.old numbers.old words.old owners.old) stores
-        (entry_on cascading parameters growth (lent separators.old numbers.old words.old owners.old) (cleared (pooled poolnumbers.old poolwords.old poolowners.old))
-        (named parameters growth (lent separators.old numbers.old words.old owners.old) number) (star_with number word caller)))
-        (placed result) (lent separators.new numbers.new words.new owners.new) }
+    ensures { Stores (unless_cascading cascading parameters (before separators numbers words owners) stores
+        (entry_on cascading parameters growth (before separators numbers words owners) (cleared (pool_before poolnumbers poolwords poolowners))
+        (named parameters growth (before separators numbers words owners) number) (star_with number word caller)))
+        (placed result) (after separators numbers words owners) }
 {
     let geometry = Geometry { parameters, growth };
     let table = generator::first_multipliers(parameters.multiplier);

@@ -1,7 +1,7 @@
 // Whose turn it is by the growth record: whether a call that writes the file may go on, and what refuses it.
 ghost use Rattle.std.specs.Prelude.{◌≡◌, false, ◌&&◌};
 ghost use Rattle.placement.specs.File.{File};
-ghost use Rattle.placement.specs.Lent.{before};
+ghost use Rattle.placement.specs.Lent.{held};
 ghost use Rattle.calls.specs.Answers.{refused_by, placed, unpooled};
 ghost use Rattle.calls.specs.Shape.{admission_number};
 ghost use Rattle.calls.specs.Calls.{file_fits_lem, pool_fits_lem};
@@ -69,8 +69,8 @@ pub fn turn_away(
 ) -> Placed
     requires { at_rest_lem growth ≡ false }
     ensures { TurnedAway parameters growth
-        (file_fits_lem parameters (before separators numbers words owners) && pool_fits_lem parameters (pool_before poolnumbers poolwords poolowners))
-        (before separators numbers words owners) (pool_before poolnumbers poolwords poolowners) (placed result) (pool_after_lem poolnumbers poolwords poolowners) }
+        (file_fits_lem parameters (held separators.now numbers.now words.now owners.now) && pool_fits_lem parameters (pool_before poolnumbers poolwords poolowners))
+        (held separators.now numbers.now words.now owners.now) (pool_before poolnumbers poolwords poolowners) (placed result) (pool_after_lem poolnumbers poolwords poolowners) }
 {
     let fits = all_fit(
         parameters,

@@ -1,6 +1,6 @@
 // The look-up.
 ghost use Rattle.std.specs.Prelude.{◌≡◌};
-ghost use Rattle.placement.specs.Lent.{before};
+ghost use Rattle.placement.specs.Lent.{held};
 ghost use Rattle.calls.specs.Answers.{unpooled, sought};
 ghost use Rattle.calls.specs.Calls.{look_up_of};
 
@@ -19,7 +19,7 @@ pub fn look_up(
     owners: &[u8],
     number: u32,
 ) -> Found
-    ensures { sought result ≡ (look_up_of parameters growth (before separators numbers words owners) unpooled number).answer }
+    ensures { sought result ≡ (look_up_of parameters growth (held separators.now numbers.now words.now owners.now) unpooled number).answer }
 {
     let fits = file_fits(
         parameters,

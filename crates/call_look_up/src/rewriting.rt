@@ -2,7 +2,7 @@
 ghost use Rattle.calls.specs.Answers.{Leaves, unpooled, placed};
 ghost use Rattle.calls.specs.Calls.{change_of};
 ghost use Rattle.calls.specs.Stores.{change_stopped_of};
-ghost use Rattle.placement.specs.Hash.{lent};
+ghost use Rattle.placement.specs.Lent.{held};
 
 use call_guard::{file_fits, guard, may_alter};
 use calls::answers::{Admission, Placed, Refusal};
@@ -22,8 +22,8 @@ pub fn change(
     number: u32,
     position: Position,
 ) -> Placed
-    ensures { Leaves (change_of parameters growth (lent separators.now numbers.now words.old owners.now) unpooled caller number position)
-        (placed result) (lent separators.now numbers.now words.new owners.now) unpooled }
+    ensures { Leaves (change_of parameters growth (held separators.now numbers.now words.old owners.now) unpooled caller number position)
+        (placed result) (held separators.now numbers.now words.new owners.now) unpooled }
 {
     change_stopped(
         parameters,
@@ -52,8 +52,8 @@ pub fn change_stopped(
     position: Position,
     stores: u32,
 ) -> Placed
-    ensures { Leaves (change_stopped_of parameters growth (lent separators.now numbers.now words.old owners.now) unpooled caller number position stores)
-        (placed result) (lent separators.now numbers.now words.new owners.now) unpooled }
+    ensures { Leaves (change_stopped_of parameters growth (held separators.now numbers.now words.old owners.now) unpooled caller number position stores)
+        (placed result) (held separators.now numbers.now words.new owners.now) unpooled }
 {
     let fits = file_fits(
         parameters,

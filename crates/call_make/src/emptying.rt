@@ -4,7 +4,7 @@ ghost use Rattle.hashing.specs.Limits.{valid_parameters};
 ghost use Rattle.placement.specs.Shape.{Sized};
 ghost use Rattle.calls.specs.Answers.{Leaves, unpooled, placed};
 ghost use Rattle.calls.specs.Calls.{make_of, empty_file_lem};
-ghost use Rattle.placement.specs.Hash.{lent};
+ghost use Rattle.placement.specs.Lent.{held, before, after};
 
 use call_guard::{file_fits, guard};
 use calls::answers::{Admission, Grown, Placed};
@@ -18,9 +18,9 @@ pub fn make(
     words: &mut [u64],
     owners: &mut [u8],
 ) -> Grown
-    ensures leaves { Leaves (make_of parameters (lent separators.old numbers.old words.old owners.old) unpooled)
-        (placed result.answer) (lent separators.new numbers.new words.new owners.new) unpooled }
-    ensures growth_value { result.growth ≡ (make_of parameters (lent separators.old numbers.old words.old owners.old) unpooled).growth }
+    ensures leaves { Leaves (make_of parameters (before separators numbers words owners) unpooled)
+        (placed result.answer) (after separators numbers words owners) unpooled }
+    ensures growth_value { result.growth ≡ (make_of parameters (before separators numbers words owners) unpooled).growth }
 {
     let growth = Growth {
         expansions: 0,
@@ -55,8 +55,8 @@ pub fn empty(
     owners: &mut [u8],
 )
     requires parameters_value { valid_parameters parameters ≡ true }
-    requires sized { Sized parameters.places parameters.pages (lent separators.old numbers.old words.old owners.old) }
-    ensures { lent separators.new numbers.new words.new owners.new ≡ empty_file_lem parameters }
+    requires sized { Sized parameters.places parameters.pages (held separators.old numbers.old words.old owners.old) }
+    ensures { after separators numbers words owners ≡ empty_file_lem parameters }
 {
     let top = placement::top_of(parameters);
     buffers::fill_8(separators, top);

@@ -2,13 +2,14 @@
 ghost use Rattle.std.specs.Prelude.{◌≡◌, true};
 ghost use Rattle.pages.specs.Position.{valid_number};
 ghost use Rattle.placement.specs.Ready.{Pooled};
-ghost use Rattle.calls.specs.Answers.{pooled, Leaves, cleared, placed};
+ghost use Rattle.calls.specs.Answers.{Leaves, cleared, placed};
 ghost use Rattle.calls.specs.Shape.{Stores};
 ghost use Rattle.calls.specs.Calls.{remove_of, remove_on, named};
 ghost use Rattle.calls.specs.Stores.{remove_stopped_of};
 ghost use Rattle.calls.specs.Shape.{stopped};
 ghost use Rattle.calls.specs.Shape.{Admitted};
-ghost use Rattle.placement.specs.Hash.{lent};
+ghost use Rattle.placement.specs.Lent.{held, before, after};
+ghost use Rattle.calls.specs.Lent.{pool_before, pool_after_lem};
 
 use call_guard::{all_fit, guard, may_alter};
 use calls::answers::{Admission, Placed, Refusal};
@@ -31,8 +32,8 @@ pub fn remove(
     caller: u8,
     number: u32,
 ) -> Placed
-    ensures { Leaves (remove_of parameters growth (lent separators.old numbers.old words.old owners.old) (pooled poolnumbers.old poolwords.old poolowners.old) caller number)
-        (placed result) (lent separators.new numbers.new words.new owners.new) (pooled poolnumbers.new poolwords.new poolowners.new) }
+    ensures { Leaves (remove_of parameters growth (before separators numbers words owners) (pool_before poolnumbers poolwords poolowners) caller number)
+        (placed result) (after separators numbers words owners) (pool_after_lem poolnumbers poolwords poolowners) }
 {
     remove_stopped(
         parameters,
@@ -65,8 +66,8 @@ pub fn remove_stopped(
     number: u32,
     stores: u32,
 ) -> Placed
-    ensures { Leaves (remove_stopped_of parameters growth (lent separators.old numbers.old words.old owners.old) (pooled poolnumbers.old poolwords.old poolowners.old) caller number stores)
-        (placed result) (lent separators.new numbers.new words.new owners.new) (pooled poolnumbers.new poolwords.new poolowners.new) }
+    ensures { Leaves (remove_stopped_of parameters growth (before separators numbers words owners) (pool_before poolnumbers poolwords poolowners) caller number stores)
+        (placed result) (after separators numbers words owners) (pool_after_lem poolnumbers poolwords poolowners) }
 {
     let fits = all_fit(
         parameters,
@@ -117,13 +118,13 @@ fn remove_held(
     number: u32,
     stores: u32,
 ) -> Placed
-    requires admitted { Admitted parameters growth (lent separators.old numbers.old words.old owners.old) }
+    requires admitted { Admitted parameters growth (held separators.old numbers.old words.old owners.old) }
     requires pooled { Pooled parameters poolnumbers.old poolwords.old poolowners.old }
     requires number_value { valid_number number ≡ true }
-    ensures { Stores (stopped true parameters (lent separators.old numbers.old words.old owners.old) stores
-        (remove_on parameters growth (lent separators.old numbers.old words.old owners.old) (cleared (pooled poolnumbers.old poolwords.old poolowners.old))
-        (named parameters growth (lent separators.old numbers.old words.old owners.old) number) caller number))
-        (placed result) (lent separators.new numbers.new words.new owners.new) }
+    ensures { Stores (stopped true parameters (before separators numbers words owners) stores
+        (remove_on parameters growth (before separators numbers words owners) (cleared (pool_before poolnumbers poolwords poolowners))
+        (named parameters growth (before separators numbers words owners) number) caller number))
+        (placed result) (after separators numbers words owners) }
 {
     let geometry = Geometry { parameters, growth };
     let table = generator::first_multipliers(parameters.multiplier);

@@ -2,12 +2,13 @@
 ghost use Rattle.std.specs.Prelude.{◌≡◌, true};
 ghost use Rattle.hashing.specs.Limits.{valid_parameters, valid_growth};
 ghost use Rattle.placement.specs.Ready.{Pooled};
-ghost use Rattle.calls.specs.Answers.{pooled, Leaves, cleared, placed};
+ghost use Rattle.calls.specs.Answers.{Leaves, cleared, placed};
 ghost use Rattle.calls.specs.Shape.{Stores};
 ghost use Rattle.calls.specs.Calls.{grow_of, shrink_of};
 ghost use Rattle.call_whole_file.specs.Outcomes.{step_of, regrow_on, regrow_of};
 ghost use Rattle.calls.specs.Shape.{Admitted};
-ghost use Rattle.placement.specs.Hash.{lent};
+ghost use Rattle.placement.specs.Lent.{held, before, after};
+ghost use Rattle.calls.specs.Lent.{pool_before, pool_after_lem};
 
 use call_guard::{all_fit, guard};
 use calls::answers::{Admission, Grown, Refusal};
@@ -26,9 +27,9 @@ pub fn grow(
     poolwords: &mut [u64],
     poolowners: &mut [u8],
 ) -> Grown
-    ensures leaves { Leaves (grow_of parameters growth (lent separators.old numbers.old words.old owners.old) (pooled poolnumbers.old poolwords.old poolowners.old))
-        (placed result.answer) (lent separators.new numbers.new words.new owners.new) (pooled poolnumbers.new poolwords.new poolowners.new) }
-    ensures growth_value { result.growth ≡ (grow_of parameters growth (lent separators.old numbers.old words.old owners.old) (pooled poolnumbers.old poolwords.old poolowners.old)).growth }
+    ensures leaves { Leaves (grow_of parameters growth (before separators numbers words owners) (pool_before poolnumbers poolwords poolowners))
+        (placed result.answer) (after separators numbers words owners) (pool_after_lem poolnumbers poolwords poolowners) }
+    ensures growth_value { result.growth ≡ (grow_of parameters growth (before separators numbers words owners) (pool_before poolnumbers poolwords poolowners)).growth }
 {
     regrow(
         parameters,
@@ -56,9 +57,9 @@ pub fn shrink(
     poolwords: &mut [u64],
     poolowners: &mut [u8],
 ) -> Grown
-    ensures leaves { Leaves (shrink_of parameters growth (lent separators.old numbers.old words.old owners.old) (pooled poolnumbers.old poolwords.old poolowners.old))
-        (placed result.answer) (lent separators.new numbers.new words.new owners.new) (pooled poolnumbers.new poolwords.new poolowners.new) }
-    ensures growth_value { result.growth ≡ (shrink_of parameters growth (lent separators.old numbers.old words.old owners.old) (pooled poolnumbers.old poolwords.old poolowners.old)).growth }
+    ensures leaves { Leaves (shrink_of parameters growth (before separators numbers words owners) (pool_before poolnumbers poolwords poolowners))
+        (placed result.answer) (after separators numbers words owners) (pool_after_lem poolnumbers poolwords poolowners) }
+    ensures growth_value { result.growth ≡ (shrink_of parameters growth (before separators numbers words owners) (pool_before poolnumbers poolwords poolowners)).growth }
 {
     regrow(
         parameters,
@@ -87,9 +88,9 @@ fn regrow(
     poolwords: &mut [u64],
     poolowners: &mut [u8],
 ) -> Grown
-    ensures leaves { Leaves (regrow_of back parameters growth (lent separators.old numbers.old words.old owners.old) (pooled poolnumbers.old poolwords.old poolowners.old))
-        (placed result.answer) (lent separators.new numbers.new words.new owners.new) (pooled poolnumbers.new poolwords.new poolowners.new) }
-    ensures growth_value { result.growth ≡ (regrow_of back parameters growth (lent separators.old numbers.old words.old owners.old) (pooled poolnumbers.old poolwords.old poolowners.old)).growth }
+    ensures leaves { Leaves (regrow_of back parameters growth (before separators numbers words owners) (pool_before poolnumbers poolwords poolowners))
+        (placed result.answer) (after separators numbers words owners) (pool_after_lem poolnumbers poolwords poolowners) }
+    ensures growth_value { result.growth ≡ (regrow_of back parameters growth (before separators numbers words owners) (pool_before poolnumbers poolwords poolowners)).growth }
 {
     let fits = all_fit(
         parameters,
@@ -158,11 +159,11 @@ fn regrow_file(
     poolwords: &mut [u64],
     poolowners: &mut [u8],
 ) -> Grown
-    requires admitted { Admitted parameters growth (lent separators.old numbers.old words.old owners.old) }
+    requires admitted { Admitted parameters growth (held separators.old numbers.old words.old owners.old) }
     requires pooled { Pooled parameters poolnumbers.old poolwords.old poolowners.old }
-    ensures stores { Stores (regrow_on back parameters growth (lent separators.old numbers.old words.old owners.old) (cleared (pooled poolnumbers.old poolwords.old poolowners.old)))
-        (placed result.answer) (lent separators.new numbers.new words.new owners.new) }
-    ensures growth_value { result.growth ≡ (regrow_on back parameters growth (lent separators.old numbers.old words.old owners.old) (cleared (pooled poolnumbers.old poolwords.old poolowners.old))).growth }
+    ensures stores { Stores (regrow_on back parameters growth (before separators numbers words owners) (cleared (pool_before poolnumbers poolwords poolowners)))
+        (placed result.answer) (after separators numbers words owners) }
+    ensures growth_value { result.growth ≡ (regrow_on back parameters growth (before separators numbers words owners) (cleared (pool_before poolnumbers poolwords poolowners))).growth }
 {
     let geometry = Geometry { parameters, growth };
     let step = step_of(geometry, back);

@@ -1,9 +1,10 @@
 // The check of a file.
 ghost use Rattle.std.specs.Prelude.{◌≡◌};
-ghost use Rattle.placement.specs.Lent.{before};
-ghost use Rattle.calls.specs.Answers.{pooled, Leaves, checked};
+ghost use Rattle.placement.specs.Lent.{held};
+ghost use Rattle.calls.specs.Answers.{Leaves, checked};
 ghost use Rattle.calls.specs.Calls.{check_of};
 ghost use Rattle.call_whole_file.specs.Outcomes.{VerdictSmall, verdict_checked_lem};
+ghost use Rattle.calls.specs.Lent.{pool_before, pool_after_lem};
 
 use call_guard::{all_fit, guard};
 use calls::answers::{Admission, Checked, Refusal};
@@ -22,8 +23,8 @@ pub fn check(
     poolwords: &mut [u64],
     poolowners: &mut [u8],
 ) -> Checked
-    ensures { Leaves (check_of parameters growth (before separators numbers words owners) (pooled poolnumbers.old poolwords.old poolowners.old))
-        (checked result) (before separators numbers words owners) (pooled poolnumbers.new poolwords.new poolowners.new) }
+    ensures { Leaves (check_of parameters growth (held separators.now numbers.now words.now owners.now) (pool_before poolnumbers poolwords poolowners))
+        (checked result) (held separators.now numbers.now words.now owners.now) (pool_after_lem poolnumbers poolwords poolowners) }
 {
     let fits = all_fit(
         parameters,

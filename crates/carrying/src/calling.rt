@@ -62,11 +62,11 @@ fn carry_second(
     poolnumbers: &mut [u32],
     poolwords: &mut [u64],
 ) -> Placed
-    requires admitted { Admitted parameters growth.state (held separators numbers words owners) }
-    requires admitted_2 { Admitted newparameters newgrowth.state (held secondseparators secondnumbers secondwords secondowners) }
+    requires admitted { Admitted parameters growth.state (held separators.now numbers.now words.now owners.now) }
+    requires admitted_2 { Admitted newparameters newgrowth.state (held secondseparators.old secondnumbers.old secondwords.old secondowners.old) }
     requires poolnumbers_len { length poolnumbers.old ≡ newparameters.pages * newparameters.places }
     requires poolwords_len { length poolwords.old ≡ newparameters.pages * newparameters.places }
-    ensures { (pool : Pool) → StoresCarry (carry_admitted parameters growth (before separators numbers words owners) newparameters newgrowth
+    ensures { (pool : Pool) → StoresCarry (carry_admitted parameters growth (held separators.now numbers.now words.now owners.now) newparameters newgrowth
         (before secondseparators secondnumbers secondwords secondowners) pool) (placed result) (after secondseparators secondnumbers secondwords secondowners) }
 {
     if newgrowth.growing {
@@ -117,7 +117,7 @@ pub fn carry(
     poolwords: &mut [u64],
     poolowners: &mut [u8],
 ) -> Recorded
-    ensures leaves { LeavesStep (carry_of parameters growth (before separators numbers words owners) newparameters newgrowth
+    ensures leaves { LeavesStep (carry_of parameters growth (held separators.now numbers.now words.now owners.now) newparameters newgrowth
         (before secondseparators secondnumbers secondwords secondowners) (pool_before poolnumbers poolwords poolowners))
         result (after secondseparators secondnumbers secondwords secondowners) (pool_after_lem poolnumbers poolwords poolowners) }
 {

@@ -91,7 +91,7 @@ fn place_second(
     waiting: &mut [u64],
     bad: usize,
 ) -> Outcome
-    requires ready { Ready new (first_multipliers_lem (multiplier_of new.parameters)) (held secondseparators secondnumbers secondwords secondowners) }
+    requires ready { Ready new (first_multipliers_lem (multiplier_of new.parameters)) (held secondseparators.old secondnumbers.old secondwords.old secondowners.old) }
     requires numbers_len_bound { old.parameters.pages ≤ bad → (length numbers.now ≤ 32768) × (all_below (2 ^ 31) numbers.now ≡ true) }
     requires pool_len { length pool.old ≡ new.parameters.pages * new.parameters.places }
     requires waiting_len { length waiting.old ≡ new.parameters.pages * new.parameters.places }
@@ -137,13 +137,13 @@ pub fn carry_pages(
     pool: &mut [u32],
     waiting: &mut [u64],
 ) -> Outcome
-    requires ready { Ready old (first_multipliers_lem (multiplier_of old.parameters)) (held separators numbers words owners) }
-    requires ready_2 { Ready new (first_multipliers_lem (multiplier_of new.parameters)) (held secondseparators secondnumbers secondwords secondowners) }
+    requires ready { Ready old (first_multipliers_lem (multiplier_of old.parameters)) (held separators.now numbers.now words.now owners.now) }
+    requires ready_2 { Ready new (first_multipliers_lem (multiplier_of new.parameters)) (held secondseparators.old secondnumbers.old secondwords.old secondowners.old) }
     requires pool_len { length pool.old ≡ new.parameters.pages * new.parameters.places }
     requires waiting_len { length waiting.old ≡ new.parameters.pages * new.parameters.places }
-    ensures value { result ≡ carry_answer old (before separators numbers words owners) new }
+    ensures value { result ≡ carry_answer old (held separators.now numbers.now words.now owners.now) new }
     ensures secondowners_value { after secondseparators secondnumbers secondwords secondowners
-        ≡ carry_file old (before separators numbers words owners) new (before secondseparators secondnumbers secondwords secondowners) }
+        ≡ carry_file old (held separators.now numbers.now words.now owners.now) new (before secondseparators secondnumbers secondwords secondowners) }
 {
     let pages = old.parameters.pages as usize;
     let table = generator::first_multipliers(old.parameters.multiplier);

@@ -1,6 +1,6 @@
 // The first page and place at which two files differ.
 ghost use Rattle.std.specs.Prelude.{◌≡◌, suc, ◌+◌, ◌*◌, ◌≤◌, length};
-ghost use Rattle.placement.specs.Lent.{before};
+ghost use Rattle.placement.specs.Lent.{held};
 ghost use Rattle.calls.specs.Spots.{spot_in};
 
 // A place of a page; the place past the last one is the page's separator.
@@ -27,7 +27,7 @@ pub fn compare(
     requires places_in_bounds { (pages * places ≤ length numbers.now) × (pages * places ≤ length plannednumbers.now) }
     requires places_in_bounds_2 { (pages * places ≤ length words.now) × (pages * places ≤ length plannedwords.now) }
     requires places_in_bounds_3 { (pages * places ≤ length owners.now) × (pages * places ≤ length plannedowners.now) }
-    ensures place_value { result.page * suc places + result.place ≡ spot_in pages places (before separators numbers words owners) (before planned plannednumbers plannedwords plannedowners) }
+    ensures place_value { result.page * suc places + result.place ≡ spot_in pages places (held separators.now numbers.now words.now owners.now) (held planned.now plannednumbers.now plannedwords.now plannedowners.now) }
     ensures place_le_places { result.place ≤ places }
 {
     let mut page = 0;

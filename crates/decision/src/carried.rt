@@ -30,9 +30,9 @@ pub fn carry_out(
     upward: bool,
 )
     requires parameters_value { valid_parameters parameters ≡ true }
-    requires sized { Sized parameters.places parameters.pages (held separators numbers words owners) }
+    requires sized { Sized parameters.places parameters.pages (held separators.old numbers.old words.old owners.old) }
     requires pooled { Pooled parameters pool.old waiting.old poolowners.old }
-    requires feasible { Feasible parameters (held separators numbers words owners) star.number planned.now decision }
+    requires feasible { Feasible parameters (held separators.old numbers.old words.old owners.old) star.number planned.now decision }
     ensures { after separators numbers words owners ≡ stopped_file upward parameters (before separators numbers words owners)
         (carried_out parameters.places (newcomer star) pool.old planned.now (before separators numbers words owners) decision) limit }
 {

@@ -28,7 +28,7 @@ pub fn store_stretch(
     upward: bool,
 )
     requires parameters_value { valid_parameters parameters ≡ true }
-    requires sized { Sized parameters.places parameters.pages (held separators numbers words owners) }
+    requires sized { Sized parameters.places parameters.pages (held separators.old numbers.old words.old owners.old) }
     requires pooled { Pooled parameters pool.old waiting.old poolowners.old }
     requires count_bound { (lo + count ≤ parameters.pages) × (lo + count ≤ length planned.now) }
     ensures { after separators numbers words owners ≡ stopped_file upward parameters (before separators numbers words owners)

@@ -1,7 +1,7 @@
 // The stars of a page join the words that are carried to it.
 ghost use Rattle.std.specs.Prelude.{◌≡◌, true, ◌++◌, ◌+◌, ◌*◌, ◌^◌, ◌≤◌, ◌<◌, ltb, length, take};
 ghost use Rattle.std.proofs.Math.Seq.{slice};
-ghost use Rattle.placement.specs.Lent.{held, before};
+ghost use Rattle.placement.specs.Lent.{held};
 ghost use Rattle.placement.specs.Ready.{Homing, Ready};
 ghost use Rattle.soundness.specs.Survey.{Tested};
 ghost use Rattle.reach.specs.Known.{Known};
@@ -105,11 +105,11 @@ pub fn take_in(
     end: usize,
     tested: usize,
 ) -> Taken
-    requires ready { Ready geometry table.now (held separators numbers words owners) }
+    requires ready { Ready geometry table.now (held separators.now numbers.now words.now owners.now) }
     requires waiting_len { (length waiting.old ≡ geometry.parameters.pages * geometry.parameters.places) × (length pool.now ≡ geometry.parameters.pages * geometry.parameters.places) }
     requires page_lt_pages { (page < geometry.parameters.pages) × (end ≤ length waiting.old) }
-    requires known { page < tested → Known geometry.parameters geometry.growth (held separators numbers words owners) pool.now page }
-    ensures { TakesIn geometry (before separators numbers words owners) page end waiting result }
+    requires known { page < tested → Known geometry.parameters geometry.growth (held separators.now numbers.now words.now owners.now) pool.now page }
+    ensures { TakesIn geometry (held separators.now numbers.now words.now owners.now) page end waiting result }
 {
     let places = geometry.parameters.places as usize;
     let at = page * places;

@@ -29,9 +29,9 @@ pub fn cascade(
     home: u32,
     page: usize,
 ) -> Outcome
-    requires enters { Enters geometry table.now (held separators numbers words owners) number home page }
+    requires enters { Enters geometry table.now (held separators.old numbers.old words.old owners.old) number home page }
     requires pooled { Pooled geometry.parameters pool.old waiting.old poolowners.old }
-    requires known { Known geometry.parameters geometry.growth (held separators numbers words owners) pool.old page }
+    requires known { Known geometry.parameters geometry.growth (held separators.old numbers.old words.old owners.old) pool.old page }
     ensures value { result ≡ cascade_answer geometry.parameters geometry.growth (before separators numbers words owners) (new_star_lem number word owner) page }
     ensures owners_value { after separators numbers words owners ≡ cascade_file geometry.parameters geometry.growth (before separators numbers words owners) (new_star_lem number word owner) page }
 {

@@ -1,6 +1,6 @@
 // A cascade that ends where it begins: the page has room.
 ghost use Rattle.std.specs.Prelude.{◌≡◌, ◌+◌, ◌-◌, ◌*◌, ◌≤◌, length, get_or};
-ghost use Rattle.placement.specs.Lent.{held, before};
+ghost use Rattle.placement.specs.Lent.{held};
 ghost use Rattle.entry_reach.specs.declared.blocks.Reach.TheVariants.{Ends};
 ghost use Rattle.entry_reach.specs.Entry.{Enters};
 ghost use Rattle.entry_cascade.specs.Cascade.{Plans};
@@ -23,11 +23,11 @@ pub fn fill_page(
     home: u32,
     page: usize,
 )
-    requires enters { Enters geometry table.now (held separators numbers words owners) number home page }
+    requires enters { Enters geometry table.now (held separators.now numbers.now words.now owners.now) number home page }
     requires pool_len { (length pool.old ≡ geometry.parameters.pages * geometry.parameters.places) × (length waiting.old ≡ geometry.parameters.pages * geometry.parameters.places) }
     requires pages_in_bounds { geometry.parameters.pages ≤ length planned.old }
     requires places_value { get_or numbers.now (page * geometry.parameters.places + geometry.parameters.places - 1) 0 ≡ 0 }
-    ensures { Plans geometry.parameters geometry.growth (before separators numbers words owners) number page pool.new planned.new (Ends page) }
+    ensures { Plans geometry.parameters geometry.growth (held separators.now numbers.now words.now owners.now) number page pool.new planned.new (Ends page) }
 {
     let places = geometry.parameters.places as usize;
     let at = page * places;

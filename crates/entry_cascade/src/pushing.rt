@@ -26,11 +26,11 @@ fn push_along(
     page: usize,
     tested: usize,
 ) -> Reach
-    requires enters { Enters geometry table.now (held separators numbers words owners) number home page }
+    requires enters { Enters geometry table.now (held separators.now numbers.now words.now owners.now) number home page }
     requires pool_len { (length pool.old ≡ geometry.parameters.pages * geometry.parameters.places) × (length waiting.old ≡ geometry.parameters.pages * geometry.parameters.places) }
     requires pages_in_bounds { geometry.parameters.pages ≤ length planned.old }
-    requires known_to { KnownTo geometry.parameters geometry.growth (held separators numbers words owners) pool.old page tested }
-    ensures { Plans geometry.parameters geometry.growth (before separators numbers words owners) number page pool.new planned.new result }
+    requires known_to { KnownTo geometry.parameters geometry.growth (held separators.now numbers.now words.now owners.now) pool.old page tested }
+    ensures { Plans geometry.parameters geometry.growth (held separators.now numbers.now words.now owners.now) number page pool.new planned.new result }
 {
     let parameters = geometry.parameters;
     let pages = parameters.pages as usize;
@@ -76,11 +76,11 @@ pub fn push(
     page: usize,
     tested: usize,
 ) -> Reach
-    requires enters { Enters geometry table.now (held separators numbers words owners) number home page }
+    requires enters { Enters geometry table.now (held separators.now numbers.now words.now owners.now) number home page }
     requires pool_len { (length pool.old ≡ geometry.parameters.pages * geometry.parameters.places) × (length waiting.old ≡ geometry.parameters.pages * geometry.parameters.places) }
     requires pages_in_bounds { geometry.parameters.pages ≤ length planned.old }
-    requires known_to { KnownTo geometry.parameters geometry.growth (held separators numbers words owners) pool.old page tested }
-    ensures { Plans geometry.parameters geometry.growth (before separators numbers words owners) number page pool.new planned.new result }
+    requires known_to { KnownTo geometry.parameters geometry.growth (held separators.now numbers.now words.now owners.now) pool.old page tested }
+    ensures { Plans geometry.parameters geometry.growth (held separators.now numbers.now words.now owners.now) number page pool.new planned.new result }
 {
     let places = geometry.parameters.places as usize;
     if numbers[page * places + places - 1] == 0 {

@@ -80,12 +80,12 @@ fn plan_block(
     block: Extent,
     incoming: usize,
 ) -> Block
-    requires ready { Ready geometry table.now (held separators numbers words owners) }
+    requires ready { Ready geometry table.now (held separators.now numbers.now words.now owners.now) }
     requires pool_len { (length pool.old ≡ geometry.parameters.pages * geometry.parameters.places) × (length waiting.old ≡ geometry.parameters.pages * geometry.parameters.places) }
     requires pages_in_bounds { geometry.parameters.pages ≤ length planned.old }
     requires incoming_in_bounds { (incoming ≤ length waiting.old) × (homes_up_to block.first (take incoming waiting.old) ≡ true) }
-    requires extends { Extends geometry.parameters geometry.growth (held separators numbers words owners) pool.old block }
-    ensures { PlansBlock geometry (before separators numbers words owners) block.first incoming pool waiting planned result }
+    requires extends { Extends geometry.parameters geometry.growth (held separators.now numbers.now words.now owners.now) pool.old block }
+    ensures { PlansBlock geometry (held separators.now numbers.now words.now owners.now) block.first incoming pool waiting planned result }
 {
     let parameters = geometry.parameters;
     let places = parameters.places as usize;
@@ -137,12 +137,12 @@ pub fn plan_onward(
     first: Extent,
     incoming: usize,
 ) -> Reach
-    requires ready { Ready geometry table.now (held separators numbers words owners) }
+    requires ready { Ready geometry table.now (held separators.now numbers.now words.now owners.now) }
     requires pool_len { (length pool.old ≡ geometry.parameters.pages * geometry.parameters.places) × (length waiting.old ≡ geometry.parameters.pages * geometry.parameters.places) }
     requires pages_in_bounds { geometry.parameters.pages ≤ length planned.old }
     requires incoming_in_bounds { (incoming ≤ length waiting.old) × (homes_up_to first.first (take incoming waiting.old) ≡ true) }
-    requires extends { Extends geometry.parameters geometry.growth (held separators numbers words owners) pool.old first }
-    ensures { PlansOnward geometry (before separators numbers words owners) first.first incoming pool waiting planned result }
+    requires extends { Extends geometry.parameters geometry.growth (held separators.now numbers.now words.now owners.now) pool.old first }
+    ensures { PlansOnward geometry (held separators.now numbers.now words.now owners.now) first.first incoming pool waiting planned result }
 {
     let pages = geometry.parameters.pages as usize;
     let mut block = first;
@@ -186,15 +186,15 @@ pub fn plan_entry(
     home: u32,
     first: Extent,
 ) -> Reach
-    requires ready { Ready geometry table.now (held separators numbers words owners) }
+    requires ready { Ready geometry table.now (held separators.now numbers.now words.now owners.now) }
     requires pool_len { (length pool.old ≡ geometry.parameters.pages * geometry.parameters.places) × (length waiting.old ≡ geometry.parameters.pages * geometry.parameters.places) }
     requires pages_in_bounds { geometry.parameters.pages ≤ length planned.old }
     requires number_value { valid_number number ≡ true }
-    requires unheld { Unheld geometry.parameters geometry.growth (held separators numbers words owners) number }
+    requires unheld { Unheld geometry.parameters geometry.growth (held separators.now numbers.now words.now owners.now) number }
     requires home_value { (home ≡ home_under geometry number) × (home ≡ first.first) }
-    requires extends { Extends geometry.parameters geometry.growth (held separators numbers words owners) pool.old first }
-    ensures by_index { (word owner : ℕ) → result ≡ reach_answer geometry.parameters geometry.growth (before separators numbers words owners) (new_star_lem number word owner) }
-    ensures applies { Applies geometry.parameters geometry.growth (before separators numbers words owners) number pool.new planned.new result }
+    requires extends { Extends geometry.parameters geometry.growth (held separators.now numbers.now words.now owners.now) pool.old first }
+    ensures by_index { (word owner : ℕ) → result ≡ reach_answer geometry.parameters geometry.growth (held separators.now numbers.now words.now owners.now) (new_star_lem number word owner) }
+    ensures applies { Applies geometry.parameters geometry.growth (held separators.now numbers.now words.now owners.now) number pool.new planned.new result }
 {
     waiting[0] = page_separator::pack(home, number, numbers.len() + 1);
     plan_onward(

@@ -7,7 +7,7 @@ ghost use Rattle.pages.specs.Page.{part, place_of};
 ghost use Rattle.pages.specs.Shape.{stretch};
 ghost use Rattle.placement.specs.Hash.{named_page_lem};
 ghost use Rattle.placement.specs.Shape.{home_under};
-ghost use Rattle.placement.specs.Lent.{held, before};
+ghost use Rattle.placement.specs.Lent.{held};
 ghost use Rattle.placement.specs.Ready.{Signers, Homing, Ready};
 ghost use Rattle.reach.specs.Known.{Known};
 ghost use Rattle.page_separator.specs.Lists.{all_below};
@@ -102,12 +102,12 @@ fn push_page(
     from: usize,
     end: usize,
 ) -> Onward
-    requires ready { Ready geometry table.now (held separators numbers words owners) }
+    requires ready { Ready geometry table.now (held separators.now numbers.now words.now owners.now) }
     requires pool_len { (length pool.old ≡ geometry.parameters.pages * geometry.parameters.places) × (length waiting.old ≡ geometry.parameters.pages * geometry.parameters.places) }
     requires pages_in_bounds { (geometry.parameters.pages ≤ length planned.old) × (page < geometry.parameters.pages) }
-    requires known { Known geometry.parameters geometry.growth (held separators numbers words owners) pool.old page }
+    requires known { Known geometry.parameters geometry.growth (held separators.now numbers.now words.now owners.now) pool.old page }
     requires from_le_end { (from ≤ end) × ((end + geometry.parameters.places ≤ length waiting.old) × (homes_up_to page (slice from end waiting.old) ≡ true)) }
-    ensures { PushesPage geometry (before separators numbers words owners) page from end pool waiting planned result }
+    ensures { PushesPage geometry (held separators.now numbers.now words.now owners.now) page from end pool waiting planned result }
 {
     let parameters = geometry.parameters;
     let places = parameters.places as usize;
@@ -148,12 +148,12 @@ fn push_within(
     star: Newcomer,
     last: usize,
 ) -> Pushing
-    requires enters { Enters geometry table.now (held separators numbers words owners) star.number star.home star.page }
+    requires enters { Enters geometry table.now (held separators.now numbers.now words.now owners.now) star.number star.home star.page }
     requires pool_len { (length pool.old ≡ geometry.parameters.pages * geometry.parameters.places) × (length waiting.old ≡ geometry.parameters.pages * geometry.parameters.places) }
     requires pages_in_bounds { geometry.parameters.pages ≤ length planned.old }
     requires page_le_last { (star.page ≤ last) × ((last < geometry.parameters.pages) × (last + 1 - star.page < geometry.parameters.pages)) }
-    requires known_to { KnownTo geometry.parameters geometry.growth (held separators numbers words owners) pool.old star.page (last + 1) }
-    ensures { PushesTo geometry.parameters geometry.growth (before separators numbers words owners) star.number star.page last
+    requires known_to { KnownTo geometry.parameters geometry.growth (held separators.now numbers.now words.now owners.now) pool.old star.page (last + 1) }
+    ensures { PushesTo geometry.parameters geometry.growth (held separators.now numbers.now words.now owners.now) star.number star.page last
         pool.new planned.new waiting.new result }
 {
     waiting[0] = page_separator::pack(star.home, star.number, numbers.len() + 1);
@@ -226,12 +226,12 @@ pub fn decide_clean(
     star: Newcomer,
     last: usize,
 ) -> Decision
-    requires enters { Enters geometry table.now (held separators numbers words owners) star.number star.home star.page }
+    requires enters { Enters geometry table.now (held separators.now numbers.now words.now owners.now) star.number star.home star.page }
     requires pool_len { (length pool.old ≡ geometry.parameters.pages * geometry.parameters.places) × (length waiting.old ≡ geometry.parameters.pages * geometry.parameters.places) }
     requires pages_in_bounds { geometry.parameters.pages ≤ length planned.old }
     requires place_value { star.place ≡ place_of star.number (part geometry.parameters.places star.page numbers.now) }
-    requires ruled { Ruled geometry.parameters geometry.growth (held separators numbers words owners) pool.old star.number last }
-    ensures { DecidesEntry geometry.parameters geometry.growth (before separators numbers words owners) (newcomer star) pool.new planned.new result }
+    requires ruled { Ruled geometry.parameters geometry.growth (held separators.now numbers.now words.now owners.now) pool.old star.number last }
+    ensures { DecidesEntry geometry.parameters geometry.growth (held separators.now numbers.now words.now owners.now) (newcomer star) pool.new planned.new result }
 {
     if has_room(geometry.parameters, numbers, star.page) {
         let place = star.place as usize;

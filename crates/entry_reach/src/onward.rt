@@ -1,6 +1,6 @@
 // The entry of a star whose newcomers leave a run of pages that are the rule's.
 ghost use Rattle.std.specs.Prelude.{◌≡◌, ◌*◌, ◌≤◌, length, take};
-ghost use Rattle.placement.specs.Lent.{held, before};
+ghost use Rattle.placement.specs.Lent.{held};
 ghost use Rattle.decision.specs.Carried.{newcomer};
 ghost use Rattle.entry_reach.specs.Entry.{Enters, DecidesEntry};
 ghost use Rattle.entry_reach.specs.Blocks.{LeavesRun};
@@ -25,13 +25,13 @@ pub fn decide_onward(
     last: usize,
     carried: usize,
 ) -> Decision
-    requires enters { Enters geometry table.now (held separators numbers words owners) star.number star.home star.page }
+    requires enters { Enters geometry table.now (held separators.now numbers.now words.now owners.now) star.number star.home star.page }
     requires pool_len { (length pool.old ≡ geometry.parameters.pages * geometry.parameters.places) × (length waiting.old ≡ geometry.parameters.pages * geometry.parameters.places) }
     requires pages_in_bounds { geometry.parameters.pages ≤ length planned.old }
     requires carried_in_bounds { carried ≤ length waiting.old }
-    requires leaves_run { LeavesRun geometry.parameters geometry.growth (held separators numbers words owners) star.number star.page last
+    requires leaves_run { LeavesRun geometry.parameters geometry.growth (held separators.now numbers.now words.now owners.now) star.number star.page last
         pool.old planned.old (take carried waiting.old) }
-    ensures { DecidesEntry geometry.parameters geometry.growth (before separators numbers words owners) (newcomer star) pool.new planned.new result }
+    ensures { DecidesEntry geometry.parameters geometry.growth (held separators.now numbers.now words.now owners.now) (newcomer star) pool.new planned.new result }
 {
     let pages = geometry.parameters.pages as usize;
     let next = last + 1;

@@ -1,7 +1,7 @@
 // An entry into a long run of pages that are the rule's. A run goes from a star's home to the first page whose stored separator is 2^k − 1, or page M−1.
 ghost use Rattle.std.specs.Prelude.{◌≡◌, ◌*◌, ◌≤◌, length};
 ghost use Rattle.pages.specs.Page.{part, place_of};
-ghost use Rattle.placement.specs.Lent.{held, before};
+ghost use Rattle.placement.specs.Lent.{held};
 ghost use Rattle.reach.specs.Known.{Known};
 ghost use Rattle.decision.specs.Carried.{newcomer};
 ghost use Rattle.entry_reach.specs.Entry.{Enters, DecidesEntry, block_end};
@@ -26,13 +26,13 @@ pub fn decide_run(
     star: Newcomer,
     last: usize,
 ) -> Decision
-    requires enters { Enters geometry table.now (held separators numbers words owners) star.number star.home star.page }
+    requires enters { Enters geometry table.now (held separators.now numbers.now words.now owners.now) star.number star.home star.page }
     requires pool_len { (length pool.old ≡ geometry.parameters.pages * geometry.parameters.places) × (length waiting.old ≡ geometry.parameters.pages * geometry.parameters.places) }
     requires pages_in_bounds { geometry.parameters.pages ≤ length planned.old }
-    requires known { Known geometry.parameters geometry.growth (held separators numbers words owners) pool.old star.page }
+    requires known { Known geometry.parameters geometry.growth (held separators.now numbers.now words.now owners.now) pool.old star.page }
     requires place_value { star.place ≡ place_of star.number (part geometry.parameters.places star.page numbers.now) }
-    requires last_value { last ≡ block_end geometry.parameters geometry.growth (held separators numbers words owners) star.home }
-    ensures { DecidesEntry geometry.parameters geometry.growth (before separators numbers words owners) (newcomer star) pool.new planned.new result }
+    requires last_value { last ≡ block_end geometry.parameters geometry.growth (held separators.now numbers.now words.now owners.now) star.home }
+    ensures { DecidesEntry geometry.parameters geometry.growth (held separators.now numbers.now words.now owners.now) (newcomer star) pool.new planned.new result }
 {
     let from = star.home as usize;
     let stop = last + 1;

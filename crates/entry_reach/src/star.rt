@@ -28,12 +28,12 @@ fn decide(
     planned: &mut [u8],
     star: Newcomer,
 ) -> Decision
-    requires enters { Enters geometry table.now (held separators numbers words owners) star.number star.home star.page }
+    requires enters { Enters geometry table.now (held separators.now numbers.now words.now owners.now) star.number star.home star.page }
     requires pool_len { (length pool.old ≡ geometry.parameters.pages * geometry.parameters.places) × (length waiting.old ≡ geometry.parameters.pages * geometry.parameters.places) }
     requires pages_in_bounds { geometry.parameters.pages ≤ length planned.old }
-    requires known { Known geometry.parameters geometry.growth (held separators numbers words owners) pool.old star.page }
+    requires known { Known geometry.parameters geometry.growth (held separators.now numbers.now words.now owners.now) pool.old star.page }
     requires place_value { star.place ≡ place_of star.number (part geometry.parameters.places star.page numbers.now) }
-    ensures { DecidesEntry geometry.parameters geometry.growth (before separators numbers words owners) (newcomer star) pool.new planned.new result }
+    ensures { DecidesEntry geometry.parameters geometry.growth (held separators.now numbers.now words.now owners.now) (newcomer star) pool.new planned.new result }
 {
     let from = star.home as usize;
     let first = block_from(geometry.parameters, separators, from, star.page);
@@ -63,9 +63,9 @@ pub fn enter_star(
     star: Newcomer,
     limit: usize,
 ) -> Outcome
-    requires enters { Enters geometry table.now (held separators numbers words owners) star.number star.home star.page }
+    requires enters { Enters geometry table.now (held separators.old numbers.old words.old owners.old) star.number star.home star.page }
     requires pooled { Pooled geometry.parameters pool.old waiting.old poolowners.old }
-    requires known { Known geometry.parameters geometry.growth (held separators numbers words owners) pool.old star.page }
+    requires known { Known geometry.parameters geometry.growth (held separators.old numbers.old words.old owners.old) pool.old star.page }
     requires place_value { star.place ≡ place_of star.number (part geometry.parameters.places star.page numbers.old) }
     ensures value { result ≡ entry_answer geometry.parameters geometry.growth (before separators numbers words owners) (newcomer star) }
     ensures owners_value { after separators numbers words owners ≡ stopped_file false geometry.parameters (before separators numbers words owners)

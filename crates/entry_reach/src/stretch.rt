@@ -1,6 +1,6 @@
 // The entry of a star decided over its reach.
 ghost use Rattle.std.specs.Prelude.{◌≡◌, ◌*◌, ◌≤◌, length};
-ghost use Rattle.placement.specs.Lent.{held, before};
+ghost use Rattle.placement.specs.Lent.{held};
 ghost use Rattle.decision.specs.Carried.{newcomer};
 ghost use Rattle.entry_reach.specs.Entry.{Enters, DecidesEntry, Extends};
 
@@ -22,11 +22,11 @@ pub fn decide_stretch(
     star: Newcomer,
     first: Extent,
 ) -> Decision
-    requires enters { Enters geometry table.now (held separators numbers words owners) star.number star.home star.page }
+    requires enters { Enters geometry table.now (held separators.now numbers.now words.now owners.now) star.number star.home star.page }
     requires pool_len { (length pool.old ≡ geometry.parameters.pages * geometry.parameters.places) × (length waiting.old ≡ geometry.parameters.pages * geometry.parameters.places) }
     requires pages_in_bounds { geometry.parameters.pages ≤ length planned.old }
-    requires home_value { (star.home ≡ first.first) × Extends geometry.parameters geometry.growth (held separators numbers words owners) pool.old first }
-    ensures { DecidesEntry geometry.parameters geometry.growth (before separators numbers words owners) (newcomer star) pool.new planned.new result }
+    requires home_value { (star.home ≡ first.first) × Extends geometry.parameters geometry.growth (held separators.now numbers.now words.now owners.now) pool.old first }
+    ensures { DecidesEntry geometry.parameters geometry.growth (held separators.now numbers.now words.now owners.now) (newcomer star) pool.new planned.new result }
 {
     let pages = geometry.parameters.pages as usize;
     let from = star.home as usize;

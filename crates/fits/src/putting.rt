@@ -1,6 +1,6 @@
 // A file written as a table.
 ghost use Rattle.std.specs.Prelude.{◌≡◌, ◌≤◌, length};
-ghost use Rattle.placement.specs.Lent.{before};
+ghost use Rattle.placement.specs.Lent.{held};
 ghost use Rattle.fits_table.specs.Rows.{table_of};
 ghost use Rattle.fits_table.specs.Shape.{rows_in, RowsUp};
 ghost use Rattle.exchange.specs.Tables.{Writes, write_under};
@@ -72,7 +72,7 @@ pub fn write_table(
     owners: &[u8],
     out: &mut [u8],
 ) -> Written
-    ensures leaves { Writes (write_under parameters growth (before separators numbers words owners) out.old) (length_said result) out.new }
+    ensures leaves { Writes (write_under parameters growth (held separators.now numbers.now words.now owners.now) out.old) (length_said result) out.new }
 {
     let fits = file_fits(
         parameters,

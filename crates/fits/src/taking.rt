@@ -41,7 +41,7 @@ fn read_lent(
     poolowners: &mut [u8],
     given: &[u8],
 ) -> Placed
-    requires admitted { Admitted parameters growth (held separators numbers words owners) }
+    requires admitted { Admitted parameters growth (held separators.old numbers.old words.old owners.old) }
     requires pooled { Pooled parameters poolnumbers.old poolwords.old poolowners.old }
     ensures { Stores (read_on parameters growth (before separators numbers words owners) (cleared (pool_before poolnumbers poolwords poolowners))
         given.now (table_in given.now)) (placed result) (after separators numbers words owners) }

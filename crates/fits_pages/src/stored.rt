@@ -78,7 +78,7 @@ pub fn place_rows(
     given: &[u8],
     rows: usize,
 ) -> bool
-    requires ready { Ready geometry table.now (held separators numbers words owners) }
+    requires ready { Ready geometry table.now (held separators.old numbers.old words.old owners.old) }
     requires pool_len { (length pool.old ≡ geometry.parameters.pages * geometry.parameters.places) × (length waiting.old ≡ length pool.old) }
     requires rows_bound { (rows ≤ 32768) × (5760 + 12 * rows ≤ length given.now) }
     requires rows_value { good_rows 0 given.now 5760 rows ≡ true }

@@ -15,7 +15,7 @@ use Rattle.placement.specs.File.{File, orderly}
 use Rattle.placement.specs.Shape.{Sized}
 use Rattle.placement.specs.Hash.{sound_at}
 use Rattle.placement.specs.Shape.{homes_of}
-use Rattle.placement.specs.Lent.{Lent, held, before}
+use Rattle.placement.specs.Lent.{Lent, Shown, held}
 use Rattle.reach.specs.Reach.{first_unsound_lem, all_stars}
 use Rattle.page_edit.specs.Shift.{stars_on, number_at, Ordered}
 
@@ -136,8 +136,8 @@ pub record Moved (p : Parameters) (g : Growth) (f f' : File) (hs : List ℕ) : T
   pub stars : all_stars p f' ≡ all_stars p f
   pub homes : hs ≡ homes_of p (grown p g) f'.numbers
 
-pub record Expanded (p : Parameters) (g : Growth) (separators numbers words owners homes : Lent) (r : Bool) : Type 0 where
+pub record Expanded (p : Parameters) (g : Growth) (separators : Shown) (numbers words owners homes : Lent) (r : Bool) : Type 0 where
   pub moved :
       r ≡ true
-      → Moved p g (before separators numbers words owners) (held separators.entry numbers.exit words.exit owners.exit) homes.exit.now
+      → Moved p g (held separators.entry.now numbers.entry.now words.entry.now owners.entry.now) (held separators.entry.now numbers.exit.now words.exit.now owners.exit.now) homes.exit.now
   pub untouched : r ≡ false → Unchanged numbers words owners homes

@@ -47,7 +47,7 @@ fn replace_block(
     lo: usize,
     count: usize,
 )
-    requires { SoundBlock geometry lo count (held separators numbers words owners) pool.old waiting.old poolowners.old }
+    requires { SoundBlock geometry lo count (held separators.old numbers.old words.old owners.old) pool.old waiting.old poolowners.old }
     ensures owners_value { after separators numbers words owners ≡ replaced geometry.parameters.places (before separators numbers words owners) lo
         (pages (hash_of geometry.parameters geometry.growth) lo count (gathered geometry.parameters.places (before separators numbers words owners) lo count)) }
     ensures pool_unchanged { drop ((lo + count) * geometry.parameters.places) pool.new ≡ drop ((lo + count) * geometry.parameters.places) pool.old }
@@ -75,8 +75,8 @@ pub fn replace_blocks(
     waiting: &mut [u64],
     poolowners: &mut [u8],
 )
-    requires placeable { Placeable geometry (held separators numbers words owners) pool.old waiting.old poolowners.old }
-    requires pages_value { first_unsound_lem geometry.parameters geometry.growth (held separators numbers words owners) 0 geometry.parameters.pages ≡ geometry.parameters.pages }
+    requires placeable { Placeable geometry (held separators.old numbers.old words.old owners.old) pool.old waiting.old poolowners.old }
+    requires pages_value { first_unsound_lem geometry.parameters geometry.growth (held separators.old numbers.old words.old owners.old) 0 geometry.parameters.pages ≡ geometry.parameters.pages }
     requires pool_value { pool.old ≡ homes_of geometry.parameters geometry.growth numbers.old }
     ensures { after separators numbers words owners ≡ replaced geometry.parameters.places (before separators numbers words owners) 0
         (pages (hash_of geometry.parameters geometry.growth) 0 geometry.parameters.pages (all_stars geometry.parameters (before separators numbers words owners))) }

@@ -146,9 +146,9 @@ pub fn move_stars(
     owners: &mut [u8],
     homes: &mut [u32],
 ) -> bool
-    requires ready { Ready geometry table.now (held separators numbers words owners) }
+    requires ready { Ready geometry table.now (held separators.now numbers.old words.old owners.old) }
     requires homes_value { homes.old ≡ homes_of geometry.parameters geometry.growth numbers.old }
-    requires pages_value { first_unsound_lem geometry.parameters geometry.growth (held separators numbers words owners) 0 geometry.parameters.pages ≡ geometry.parameters.pages }
+    requires pages_value { first_unsound_lem geometry.parameters geometry.growth (held separators.now numbers.old words.old owners.old) 0 geometry.parameters.pages ≡ geometry.parameters.pages }
     requires growth_bound { page_count geometry.parameters geometry.growth < geometry.parameters.pages }
     ensures { Expanded geometry.parameters geometry.growth separators numbers words owners homes result }
 {

@@ -28,10 +28,10 @@ fn replace_all(
     poolowners: &mut [u8],
     page: usize,
 ) -> Outcome
-    requires ready { Ready geometry table.now (held separators numbers words owners) }
+    requires ready { Ready geometry table.now (held separators.old numbers.old words.old owners.old) }
     requires pooled { Pooled geometry.parameters pool.old waiting.old poolowners.old }
     requires movable { Movable back geometry.parameters geometry.growth }
-    requires pages_value { first_unsound_lem geometry.parameters geometry.growth (held separators numbers words owners) 0 geometry.parameters.pages ≡ geometry.parameters.pages }
+    requires pages_value { first_unsound_lem geometry.parameters geometry.growth (held separators.old numbers.old words.old owners.old) 0 geometry.parameters.pages ≡ geometry.parameters.pages }
     requires pool_value { pool.old ≡ homes_of geometry.parameters geometry.growth numbers.old }
     ensures value { result ≡ growth_answer geometry.parameters geometry.growth (before separators numbers words owners) (state_after back geometry.parameters geometry.growth) page }
     ensures owners_value { after separators numbers words owners ≡ growth_file geometry.parameters geometry.growth
@@ -63,10 +63,10 @@ fn grow_in_place(
     waiting: &mut [u64],
     poolowners: &mut [u8],
 ) -> bool
-    requires ready { Ready geometry table.now (held separators numbers words owners) }
+    requires ready { Ready geometry table.now (held separators.old numbers.old words.old owners.old) }
     requires pooled { Pooled geometry.parameters pool.old waiting.old poolowners.old }
     requires movable { Movable false geometry.parameters geometry.growth }
-    requires pages_value { first_unsound_lem geometry.parameters geometry.growth (held separators numbers words owners) 0 geometry.parameters.pages ≡ geometry.parameters.pages }
+    requires pages_value { first_unsound_lem geometry.parameters geometry.growth (held separators.old numbers.old words.old owners.old) 0 geometry.parameters.pages ≡ geometry.parameters.pages }
     requires pool_value { pool.old ≡ homes_of geometry.parameters geometry.growth numbers.old }
     ensures { GrowsInPlace geometry.parameters geometry.growth (grown geometry.parameters geometry.growth) (before separators numbers words owners)
         (after separators numbers words owners) pool.old pool.new result }
@@ -102,7 +102,7 @@ fn grow(
     poolowners: &mut [u8],
     page: usize,
 ) -> Outcome
-    requires ready { Ready geometry table.now (held separators numbers words owners) }
+    requires ready { Ready geometry table.now (held separators.old numbers.old words.old owners.old) }
     requires pooled { Pooled geometry.parameters pool.old waiting.old poolowners.old }
     requires movable { Movable false geometry.parameters geometry.growth }
     ensures value { result ≡ growth_answer geometry.parameters geometry.growth (before separators numbers words owners) (state_after false geometry.parameters geometry.growth) page }
@@ -187,10 +187,10 @@ fn move_own(
     waiting: &mut [u64],
     poolowners: &mut [u8],
 ) -> bool
-    requires ready { Ready geometry table.now (held separators numbers words owners) }
+    requires ready { Ready geometry table.now (held separators.old numbers.old words.old owners.old) }
     requires pooled { Pooled geometry.parameters pool.old waiting.old poolowners.old }
     requires movable { Movable true geometry.parameters geometry.growth }
-    requires pages_value { first_unsound_lem geometry.parameters geometry.growth (held separators numbers words owners) 0 geometry.parameters.pages ≡ geometry.parameters.pages }
+    requires pages_value { first_unsound_lem geometry.parameters geometry.growth (held separators.old numbers.old words.old owners.old) 0 geometry.parameters.pages ≡ geometry.parameters.pages }
     requires pool_value { pool.old ≡ homes_of geometry.parameters geometry.growth numbers.old }
     requires simple { Simple geometry separators.old numbers.old }
     ensures { MovesOwn geometry.parameters geometry.growth (before separators numbers words owners) (after separators numbers words owners) result }
@@ -233,7 +233,7 @@ fn shrink(
     poolowners: &mut [u8],
     page: usize,
 ) -> Outcome
-    requires ready { Ready geometry table.now (held separators numbers words owners) }
+    requires ready { Ready geometry table.now (held separators.old numbers.old words.old owners.old) }
     requires pooled { Pooled geometry.parameters pool.old waiting.old poolowners.old }
     requires movable { Movable true geometry.parameters geometry.growth }
     ensures value { result ≡ growth_answer geometry.parameters geometry.growth (before separators numbers words owners) (state_after true geometry.parameters geometry.growth) page }
@@ -275,7 +275,7 @@ pub fn regrow(
     poolowners: &mut [u8],
     page: usize,
 ) -> Outcome
-    requires ready { Ready geometry table.now (held separators numbers words owners) }
+    requires ready { Ready geometry table.now (held separators.old numbers.old words.old owners.old) }
     requires pooled { Pooled geometry.parameters pool.old waiting.old poolowners.old }
     requires movable { Movable back geometry.parameters geometry.growth }
     ensures value { result ≡ growth_answer geometry.parameters geometry.growth (before separators numbers words owners) (state_after back geometry.parameters geometry.growth) page }

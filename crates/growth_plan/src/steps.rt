@@ -27,11 +27,11 @@ pub fn accept_growth(
     waiting: &mut [u64],
     page: usize,
 ) -> Outcome
-    requires ready { Ready geometry table.now (held separators numbers words owners) }
+    requires ready { Ready geometry table.now (held separators.now numbers.now words.now owners.now) }
     requires pool_len { length pool.old ≡ geometry.parameters.pages * geometry.parameters.places }
     requires waiting_len { length waiting.old ≡ geometry.parameters.pages * geometry.parameters.places }
     requires movable { Movable false geometry.parameters geometry.growth }
-    ensures { result ≡ growth_answer geometry.parameters geometry.growth (before separators numbers words owners) (grown geometry.parameters geometry.growth) page }
+    ensures { result ≡ growth_answer geometry.parameters geometry.growth (held separators.now numbers.now words.now owners.now) (grown geometry.parameters geometry.growth) page }
 {
     let pages = geometry.parameters.pages as usize;
     let bad = reach::survey_pages(
@@ -65,13 +65,13 @@ fn plan_step(
     step: usize,
     page: usize,
 ) -> Outcome
-    requires ready { Ready geometry table.now (held separators numbers words owners) }
+    requires ready { Ready geometry table.now (held separators.now numbers.now words.now owners.now) }
     requires pool_len { length pool.old ≡ geometry.parameters.pages * geometry.parameters.places }
     requires waiting_len { length waiting.old ≡ geometry.parameters.pages * geometry.parameters.places }
     requires movable { Movable false geometry.parameters geometry.growth }
     requires pages_in_bounds { (geometry.parameters.pages ≤ length planned.old) × (step < geometry.parameters.pages) }
-    ensures value { result ≡ growth_answer geometry.parameters geometry.growth (before separators numbers words owners) (grown geometry.parameters geometry.growth) page }
-    ensures plans_step { PlansStep geometry.parameters geometry.growth (before separators numbers words owners) pool.new planned.new step result }
+    ensures value { result ≡ growth_answer geometry.parameters geometry.growth (held separators.now numbers.now words.now owners.now) (grown geometry.parameters geometry.growth) page }
+    ensures plans_step { PlansStep geometry.parameters geometry.growth (held separators.now numbers.now words.now owners.now) pool.new planned.new step result }
 {
     let pages = geometry.parameters.pages as usize;
     let bad = reach::survey_pages(
@@ -147,14 +147,14 @@ pub fn step_page(
     step: usize,
     page: usize,
 ) -> Outcome
-    requires ready { Ready geometry table.now (held separators numbers words owners) }
-    requires sized { Sized geometry.parameters.places geometry.parameters.pages (held secondseparators secondnumbers secondwords secondowners) }
+    requires ready { Ready geometry table.now (held separators.now numbers.now words.now owners.now) }
+    requires sized { Sized geometry.parameters.places geometry.parameters.pages (held secondseparators.old secondnumbers.old secondwords.old secondowners.old) }
     requires pooled { Pooled geometry.parameters pool.old waiting.old poolowners.old }
     requires movable { Movable false geometry.parameters geometry.growth }
     requires step_lt_pages { step < geometry.parameters.pages }
-    ensures value { result ≡ growth_answer geometry.parameters geometry.growth (before separators numbers words owners) (grown geometry.parameters geometry.growth) page }
+    ensures value { result ≡ growth_answer geometry.parameters geometry.growth (held separators.now numbers.now words.now owners.now) (grown geometry.parameters geometry.growth) page }
     ensures secondowners_value { after secondseparators secondnumbers secondwords secondowners ≡ page_stepped geometry.parameters geometry.growth
-        (before separators numbers words owners) (grown geometry.parameters geometry.growth) (before secondseparators secondnumbers secondwords secondowners) step }
+        (held separators.now numbers.now words.now owners.now) (grown geometry.parameters geometry.growth) (before secondseparators secondnumbers secondwords secondowners) step }
 {
     let places = geometry.parameters.places as usize;
     let mut planned = [0u8; 1024];

@@ -3,7 +3,7 @@
 #![tactic(auto)]
 
 ghost use Rattle.std.specs.Prelude.{◌≡◌};
-ghost use Rattle.placement.specs.Lent.{before, after};
+ghost use Rattle.placement.specs.Lent.{held, before, after};
 ghost use Rattle.calls.specs.Answers.{Leaves, placed};
 ghost use Rattle.calls.specs.Lent.{pool_before, pool_after_lem};
 ghost use Rattle.calls.specs.Records.{grow_under, shrink_under, record_after, open_under, step_under, LeavesStep};
@@ -96,7 +96,7 @@ pub fn open_growth(
     poolwords: &mut [u64],
     poolowners: &mut [u8],
 ) -> Placed
-    ensures leaves { LeavesStep (open_under parameters growth.old (before separators numbers words owners)
+    ensures leaves { LeavesStep (open_under parameters growth.old (held separators.now numbers.now words.now owners.now)
         (before secondseparators secondnumbers secondwords secondowners) (pool_before poolnumbers poolwords poolowners))
         (recorded_as result growth.new) (after secondseparators secondnumbers secondwords secondowners) (pool_after_lem poolnumbers poolwords poolowners) }
 {
@@ -136,7 +136,7 @@ pub fn step_growth(
     poolwords: &mut [u64],
     poolowners: &mut [u8],
 ) -> Placed
-    ensures leaves { LeavesStep (step_under parameters growth.old (before separators numbers words owners)
+    ensures leaves { LeavesStep (step_under parameters growth.old (held separators.now numbers.now words.now owners.now)
         (before secondseparators secondnumbers secondwords secondowners) (pool_before poolnumbers poolwords poolowners))
         (recorded_as result growth.new) (after secondseparators secondnumbers secondwords secondowners) (pool_after_lem poolnumbers poolwords poolowners) }
 {

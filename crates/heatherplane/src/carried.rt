@@ -1,5 +1,5 @@
 // A file carried to the other multiplier: it is only read.
-ghost use Rattle.placement.specs.Lent.{before, after};
+ghost use Rattle.placement.specs.Lent.{held, before, after};
 ghost use Rattle.calls.specs.Carry.{carry_of};
 ghost use Rattle.calls.specs.Lent.{pool_before, pool_after_lem};
 ghost use Rattle.heatherplane.specs.Reply.{RepliesStep, parameters_of_lem, record_of_lem};
@@ -45,7 +45,7 @@ pub extern "C" fn heatherplane_carry(
     poolwords: &mut [u64],
     poolowners: &mut [u8],
 ) -> Reply
-    ensures { RepliesStep (carry_of (parameters_of_lem places groups width step bits load pages multiplier) (record_of_lem expansions expanded growing steps) (before separators numbers words owners)
+    ensures { RepliesStep (carry_of (parameters_of_lem places groups width step bits load pages multiplier) (record_of_lem expansions expanded growing steps) (held separators.now numbers.now words.now owners.now)
         (parameters_of_lem newplaces newgroups newwidth newstep newbits newload newpages newmultiplier)
         (record_of_lem newexpansions newexpanded newopen newsteps) (before secondseparators secondnumbers secondwords secondowners) (pool_before poolnumbers poolwords poolowners))
         result (after secondseparators secondnumbers secondwords secondowners) (pool_after_lem poolnumbers poolwords poolowners) }

@@ -1,5 +1,5 @@
 // A growth in steps: the file is only read.
-ghost use Rattle.placement.specs.Lent.{before, after};
+ghost use Rattle.placement.specs.Lent.{held, before, after};
 ghost use Rattle.calls.specs.Records.{open_under, step_under};
 ghost use Rattle.calls.specs.Lent.{pool_before, pool_after_lem};
 ghost use Rattle.heatherplane.specs.Reply.{RepliesStep, parameters_of_lem, record_of_lem};
@@ -34,7 +34,7 @@ pub extern "C" fn heatherplane_open_growth(
     poolowners: &mut [u8],
 ) -> Reply
     ensures { RepliesStep (open_under (parameters_of_lem places groups width step bits load pages multiplier) (record_of_lem expansions expanded growing steps)
-        (before separators numbers words owners) (before secondseparators secondnumbers secondwords secondowners) (pool_before poolnumbers poolwords poolowners))
+        (held separators.now numbers.now words.now owners.now) (before secondseparators secondnumbers secondwords secondowners) (pool_before poolnumbers poolwords poolowners))
         result (after secondseparators secondnumbers secondwords secondowners) (pool_after_lem poolnumbers poolwords poolowners) }
 {
     let parameters = Parameters {
@@ -93,7 +93,7 @@ pub extern "C" fn heatherplane_step_growth(
     poolowners: &mut [u8],
 ) -> Reply
     ensures { RepliesStep (step_under (parameters_of_lem places groups width step bits load pages multiplier) (record_of_lem expansions expanded growing steps)
-        (before separators numbers words owners) (before secondseparators secondnumbers secondwords secondowners) (pool_before poolnumbers poolwords poolowners))
+        (held separators.now numbers.now words.now owners.now) (before secondseparators secondnumbers secondwords secondowners) (pool_before poolnumbers poolwords poolowners))
         result (after secondseparators secondnumbers secondwords secondowners) (pool_after_lem poolnumbers poolwords poolowners) }
 {
     let parameters = Parameters {

@@ -1,6 +1,6 @@
 // The calls that only read the file.
 ghost use Rattle.std.specs.Prelude.{◌≡◌};
-ghost use Rattle.placement.specs.Lent.{before};
+ghost use Rattle.placement.specs.Lent.{held};
 ghost use Rattle.calls.specs.Answers.{unpooled};
 ghost use Rattle.calls.specs.Records.{look_up_under, due_under, check_under};
 ghost use Rattle.calls.specs.Lent.{pool_before, pool_after_lem};
@@ -31,7 +31,7 @@ pub extern "C" fn heatherplane_look_up(
     number: u32,
 ) -> Reply
     ensures { result ≡ reply_of_lem (look_up_under (parameters_of_lem places groups width step bits load pages multiplier) (record_of_lem expansions expanded growing steps)
-        (before separators numbers words owners) unpooled number).answer (record_of_lem expansions expanded growing steps) }
+        (held separators.now numbers.now words.now owners.now) unpooled number).answer (record_of_lem expansions expanded growing steps) }
 {
     let parameters = Parameters {
         places,
@@ -70,7 +70,7 @@ pub extern "C" fn heatherplane_due(
     owners: &[u8],
 ) -> Reply
     ensures { result ≡ reply_of_lem (due_under (parameters_of_lem places groups width step bits load pages multiplier) (record_of_lem expansions expanded growing steps)
-        (before separators numbers words owners) unpooled).answer (record_of_lem expansions expanded growing steps) }
+        (held separators.now numbers.now words.now owners.now) unpooled).answer (record_of_lem expansions expanded growing steps) }
 {
     let parameters = Parameters {
         places,
@@ -110,8 +110,8 @@ pub extern "C" fn heatherplane_check(
     poolowners: &mut [u8],
 ) -> Reply
     ensures { Replies (check_under (parameters_of_lem places groups width step bits load pages multiplier) (record_of_lem expansions expanded growing steps)
-        (before separators numbers words owners) (pool_before poolnumbers poolwords poolowners))
-        (record_of_lem expansions expanded growing steps) result (before separators numbers words owners) (pool_after_lem poolnumbers poolwords poolowners) }
+        (held separators.now numbers.now words.now owners.now) (pool_before poolnumbers poolwords poolowners))
+        (record_of_lem expansions expanded growing steps) result (held separators.now numbers.now words.now owners.now) (pool_after_lem poolnumbers poolwords poolowners) }
 {
     let parameters = Parameters {
         places,

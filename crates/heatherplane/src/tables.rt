@@ -1,5 +1,5 @@
 // A file's stars as a FITS table, written and read.
-ghost use Rattle.placement.specs.Lent.{before, after};
+ghost use Rattle.placement.specs.Lent.{held, before, after};
 ghost use Rattle.calls.specs.Lent.{pool_before, pool_after_lem};
 ghost use Rattle.exchange.specs.Tables.{write_under, read_under};
 ghost use Rattle.heatherplane.specs.Reply.{Replies, RepliesTable, parameters_of_lem, record_of_lem};
@@ -31,7 +31,7 @@ pub extern "C" fn heatherplane_write_table(
     out: &mut [u8],
 ) -> Reply
     ensures { RepliesTable (write_under (parameters_of_lem places groups width step bits load pages multiplier) (record_of_lem expansions expanded growing steps)
-        (before separators numbers words owners) out.old) (record_of_lem expansions expanded growing steps) result out.new }
+        (held separators.now numbers.now words.now owners.now) out.old) (record_of_lem expansions expanded growing steps) result out.new }
 {
     let parameters = Parameters {
         places,

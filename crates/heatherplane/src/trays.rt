@@ -1,7 +1,7 @@
 // The tray of reports and its filter. The functions that hold the list are thin: each calls crate tray and answers in numbers. They take
 // parameters and growth record by value as structs.
 ghost use Rattle.std.specs.Prelude.{◌≡◌};
-ghost use Rattle.placement.specs.Lent.{before, after};
+ghost use Rattle.placement.specs.Lent.{held, before, after};
 ghost use Rattle.calls.specs.Answers.{sought};
 ghost use Rattle.calls.specs.Lent.{pool_before, pool_after_lem};
 ghost use Rattle.reports.specs.Bits.{bits_of};
@@ -106,7 +106,7 @@ pub extern "C" fn heatherplane_look_up_with_tray(
     number: u32,
 ) -> Reply
     ensures { result ≡ reply_of_lem (combined_of (parameters_in parameters) (record_in growth)
-        (before separators numbers words owners) (tray_of reports.now count) filter.now number) (record_in growth) }
+        (held separators.now numbers.now words.now owners.now) (tray_of reports.now count) filter.now number) (record_in growth) }
 {
     let asked = asked_of(parameters, growth);
     let found = tray::look_up(

@@ -150,8 +150,8 @@ pub extern "C" fn heatherplane_change(
     dec: i32,
 ) -> Reply
     ensures { Replies (change_under (parameters_of_lem places groups width step bits load pages multiplier) (record_of_lem expansions expanded growing steps)
-        (before separators numbers words owners) unpooled caller number (position_of ra dec))
-        (record_of_lem expansions expanded growing steps) result (held separators.entry numbers.entry words.exit owners.entry) unpooled }
+        (held separators.now numbers.now words.old owners.now) unpooled caller number (position_of ra dec))
+        (record_of_lem expansions expanded growing steps) result (held separators.now numbers.now words.new owners.now) unpooled }
 {
     let parameters = Parameters {
         places,

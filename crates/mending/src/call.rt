@@ -28,7 +28,7 @@ fn mend_file(
     poolwords: &mut [u64],
     poolowners: &mut [u8],
 ) -> Placed
-    requires admitted { Admitted parameters growth (held separators numbers words owners) }
+    requires admitted { Admitted parameters growth (held separators.old numbers.old words.old owners.old) }
     requires pooled { Pooled parameters poolnumbers.old poolwords.old poolowners.old }
     ensures { Stores (mend_on parameters growth (before separators numbers words owners) (cleared (pool_before poolnumbers poolwords poolowners)))
         (placed result) (after separators numbers words owners) }

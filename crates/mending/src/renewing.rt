@@ -55,7 +55,7 @@ pub fn renew(
     end: usize,
 ) -> bool
     requires parameters_value { valid_parameters parameters ≡ true }
-    requires sized { Sized parameters.places parameters.pages (held separators numbers words owners) }
+    requires sized { Sized parameters.places parameters.pages (held separators.old numbers.old words.old owners.old) }
     requires pooled { Pooled parameters pool.old waiting.old poolowners.old }
     requires in_groups { InGroups parameters.pages end waiting.old ends.now }
     requires waiting_value { sourced numbers.old 0 (take end waiting.old) ≡ true }

@@ -38,12 +38,12 @@ pub fn find(
     home: u32,
     homes: &mut [u32; 32],
 ) -> Named
-    requires ready { Ready geometry table.now (held separators numbers words owners) }
+    requires ready { Ready geometry table.now (held separators.now numbers.now words.now owners.now) }
     requires number_value { valid_number number ≡ true }
     requires home_value { home ≡ home_under geometry number }
     requires homes_len { length homes.old ≡ 32 }
-    ensures named_as { NamedAs geometry.parameters geometry.growth (before separators numbers words owners) number result }
-    ensures homed_as { HomedAs geometry.parameters geometry.growth (before separators numbers words owners) result homes.new }
+    ensures named_as { NamedAs geometry.parameters geometry.growth (held separators.now numbers.now words.now owners.now) number result }
+    ensures homed_as { HomedAs geometry.parameters geometry.growth (held separators.now numbers.now words.now owners.now) result homes.new }
 {
     let places = geometry.parameters.places as usize;
     let page = soundness::named_from(table, geometry, separators, number, home);
@@ -101,11 +101,11 @@ pub fn find_kept(
     pool: &mut [u32],
     number: u32,
 ) -> Named
-    requires ready { Ready geometry table.now (held separators numbers words owners) }
+    requires ready { Ready geometry table.now (held separators.now numbers.now words.now owners.now) }
     requires pool_len { length pool.old ≡ geometry.parameters.pages * geometry.parameters.places }
     requires number_value { valid_number number ≡ true }
-    ensures named_as { NamedAs geometry.parameters geometry.growth (before separators numbers words owners) number result }
-    ensures known { result.readable ≡ true → Known geometry.parameters geometry.growth (before separators numbers words owners) pool.new result.page }
+    ensures named_as { NamedAs geometry.parameters geometry.growth (held separators.now numbers.now words.now owners.now) number result }
+    ensures known { result.readable ≡ true → Known geometry.parameters geometry.growth (held separators.now numbers.now words.now owners.now) pool.new result.page }
 {
     let home = hashing::home(table, geometry, number);
     let mut homes = [0u32; 32];

@@ -25,9 +25,9 @@ fn enter_one(
     word: u64,
     owner: u8,
 ) -> bool
-    requires ready { Ready geometry table.now (held separators numbers words owners) }
+    requires ready { Ready geometry table.now (held separators.old numbers.old words.old owners.old) }
     requires pooled { Pooled geometry.parameters pool.old waiting.old poolowners.old }
-    requires enterable { Enterable geometry.parameters geometry.growth (held separators numbers words owners) number word }
+    requires enterable { Enterable geometry.parameters geometry.growth (held separators.old numbers.old words.old owners.old) number word }
     ensures { EntersOne geometry.parameters geometry.growth (before separators numbers words owners) (after separators numbers words owners) (star_with number word owner) result }
 {
     let places = geometry.parameters.places as usize;
@@ -71,9 +71,9 @@ fn enter_place(
     own: Page,
     place: usize,
 ) -> bool
-    requires ready { Ready geometry table.now (held separators numbers words owners) }
+    requires ready { Ready geometry table.now (held separators.old numbers.old words.old owners.old) }
     requires pooled { Pooled geometry.parameters pool.old waiting.old poolowners.old }
-    requires entered_below { EnteredBelow geometry.parameters geometry.growth (held separators numbers words owners) own place }
+    requires entered_below { EnteredBelow geometry.parameters geometry.growth (held separators.old numbers.old words.old owners.old) own place }
     requires place_lt_places { place < geometry.parameters.places }
     ensures { EntersPlace geometry.parameters geometry.growth (before separators numbers words owners) (after separators numbers words owners) own place result }
 {
@@ -110,9 +110,9 @@ pub fn enter_own(
     own: Page,
     from: usize,
 ) -> usize
-    requires ready { Ready geometry table.now (held separators numbers words owners) }
+    requires ready { Ready geometry table.now (held separators.old numbers.old words.old owners.old) }
     requires pooled { Pooled geometry.parameters pool.old waiting.old poolowners.old }
-    requires entered_below { EnteredBelow geometry.parameters geometry.growth (held separators numbers words owners) own from }
+    requires entered_below { EnteredBelow geometry.parameters geometry.growth (held separators.old numbers.old words.old owners.old) own from }
     ensures { EntersOwn geometry.parameters geometry.growth (before separators numbers words owners) (after separators numbers words owners) own from result }
 {
     let places = geometry.parameters.places as usize;

@@ -20,9 +20,9 @@ fn take_one(
     page: usize,
     number: u32,
 )
-    requires ready { Ready geometry table.now (held separators numbers words owners) }
+    requires ready { Ready geometry table.now (held separators.old numbers.old words.old owners.old) }
     requires pooled { Pooled geometry.parameters pool.old waiting.old poolowners.old }
-    requires takeable { Takeable geometry.parameters geometry.growth (held separators numbers words owners) page number }
+    requires takeable { Takeable geometry.parameters geometry.growth (held separators.old numbers.old words.old owners.old) page number }
     ensures { TakesOne geometry.parameters geometry.growth (before separators numbers words owners) (after separators numbers words owners) page number }
 {
     let places = geometry.parameters.places as usize;
@@ -67,9 +67,9 @@ pub fn take_own(
     own: Page,
     page: usize,
 )
-    requires ready { Ready geometry table.now (held separators numbers words owners) }
+    requires ready { Ready geometry table.now (held separators.old numbers.old words.old owners.old) }
     requires pooled { Pooled geometry.parameters pool.old waiting.old poolowners.old }
-    requires takeable_own { TakeableOwn geometry.parameters geometry.growth (held separators numbers words owners) own page }
+    requires takeable_own { TakeableOwn geometry.parameters geometry.growth (held separators.old numbers.old words.old owners.old) own page }
     ensures { TakesOwn geometry.parameters geometry.growth (before separators numbers words owners) (after separators numbers words owners) own }
 {
     let mut i = geometry.parameters.places as usize;

@@ -6,7 +6,7 @@ use Rattle.hashing.specs.declared.Parameters.{Parameters}
 use Rattle.hashing.specs.Limits.{valid_parameters}
 use Rattle.placement.specs.Rule.{Star, Hash, Contents, separators, star_with}
 use Rattle.placement.specs.File.{column, written}
-use Rattle.placement.specs.Lent.{Lent}
+use Rattle.placement.specs.Lent.{Lent, Shown}
 use Rattle.page_separator.specs.Lists.{all, all_below}
 use Rattle.page_separator.specs.Words.{home_of, number_in, source_of}
 use Rattle.page_plan.specs.Gather.{group, grouped, stretch_words, stars_in}
@@ -144,7 +144,7 @@ pub record Planned (q : Parameters) (lo count : ℕ) (w l pool pool' planned pla
   pub counted : r ≡ length (remains q lo 0 count w l)
 
 -- the words carried in stand at the front of `waiting`, the homes of the items in the pool; the star k is left out
-abbrev pub PlansStretch : Parameters → ℕ → ℕ → ℕ → ℕ → Lent → Lent → Lent → Lent → ℕ → Type 0
+abbrev pub PlansStretch : Parameters → ℕ → ℕ → ℕ → ℕ → Shown → Lent → Lent → Lent → ℕ → Type 0
 PlansStretch q lo count k carried numbers pool waiting planned r =
     Planned q lo count (take carried waiting.entry.now)
     (stretch_words q.places lo count k numbers.entry.now pool.entry.now) pool.entry.now pool.exit.now planned.entry.now

@@ -2,7 +2,7 @@
 ghost use Rattle.std.specs.Prelude.{◌≡◌, cond, ◌+◌, ◌*◌, ◌≤◌, ◌<◌, length, take, drop};
 ghost use Rattle.buffers.specs.Lists.{written};
 ghost use Rattle.page_store.specs.Stores.{page_in_turn_lem, changed_pages, enough, column_stored};
-ghost use Rattle.page_store.specs.Columns.{columns, columns_before};
+ghost use Rattle.page_store.specs.Columns.{columns};
 
 use crate::one_page::{page_differs, store_page};
 
@@ -34,13 +34,13 @@ fn store_pages(
     requires places_in_bounds { ((lo + count) * places ≤ length numbers.old) × ((lo + count) * places ≤ length poolnumbers.now) }
     requires places_in_bounds_2 { ((lo + count) * places ≤ length words.old) × ((lo + count) * places ≤ length poolwords.now) }
     requires places_in_bounds_3 { ((lo + count) * places ≤ length owners.old) × ((lo + count) * places ≤ length poolowners.now) }
-    ensures value { result ≡ enough limit (changed_pages upward places lo count (columns numbers.old words.old owners.old) (columns_before poolnumbers poolwords poolowners)) }
+    ensures value { result ≡ enough limit (changed_pages upward places lo count (columns numbers.old words.old owners.old) (columns poolnumbers.now poolwords.now poolowners.now)) }
     ensures numbers_after { numbers.new ≡ column_stored places poolnumbers.now (take limit
-        (changed_pages upward places lo count (columns numbers.old words.old owners.old) (columns_before poolnumbers poolwords poolowners))) numbers.old }
+        (changed_pages upward places lo count (columns numbers.old words.old owners.old) (columns poolnumbers.now poolwords.now poolowners.now))) numbers.old }
     ensures words_after { words.new ≡ column_stored places poolwords.now (take limit
-        (changed_pages upward places lo count (columns numbers.old words.old owners.old) (columns_before poolnumbers poolwords poolowners))) words.old }
+        (changed_pages upward places lo count (columns numbers.old words.old owners.old) (columns poolnumbers.now poolwords.now poolowners.now))) words.old }
     ensures owners_after { owners.new ≡ column_stored places poolowners.now (take limit
-        (changed_pages upward places lo count (columns numbers.old words.old owners.old) (columns_before poolnumbers poolwords poolowners))) owners.old }
+        (changed_pages upward places lo count (columns numbers.old words.old owners.old) (columns poolnumbers.now poolwords.now poolowners.now))) owners.old }
 {
     let mut stored = 0;
     let mut turn = 0;
@@ -96,15 +96,15 @@ pub fn store(
     requires places_in_bounds { ((lo + count) * places ≤ length numbers.old) × ((lo + count) * places ≤ length poolnumbers.now) }
     requires places_in_bounds_2 { ((lo + count) * places ≤ length words.old) × ((lo + count) * places ≤ length poolwords.now) }
     requires places_in_bounds_3 { ((lo + count) * places ≤ length owners.old) × ((lo + count) * places ≤ length poolowners.now) }
-    ensures value { result ≡ enough limit (changed_pages upward places lo count (columns numbers.old words.old owners.old) (columns_before poolnumbers poolwords poolowners)) }
+    ensures value { result ≡ enough limit (changed_pages upward places lo count (columns numbers.old words.old owners.old) (columns poolnumbers.now poolwords.now poolowners.now)) }
     ensures separators_after { separators.new ≡ cond (enough limit (changed_pages upward places lo count (columns numbers.old words.old owners.old)
-        (columns_before poolnumbers poolwords poolowners))) (written lo (take count (drop lo planned.now)) separators.old) separators.old }
+        (columns poolnumbers.now poolwords.now poolowners.now))) (written lo (take count (drop lo planned.now)) separators.old) separators.old }
     ensures numbers_after { numbers.new ≡ column_stored places poolnumbers.now (take limit
-        (changed_pages upward places lo count (columns numbers.old words.old owners.old) (columns_before poolnumbers poolwords poolowners))) numbers.old }
+        (changed_pages upward places lo count (columns numbers.old words.old owners.old) (columns poolnumbers.now poolwords.now poolowners.now))) numbers.old }
     ensures words_after { words.new ≡ column_stored places poolwords.now (take limit
-        (changed_pages upward places lo count (columns numbers.old words.old owners.old) (columns_before poolnumbers poolwords poolowners))) words.old }
+        (changed_pages upward places lo count (columns numbers.old words.old owners.old) (columns poolnumbers.now poolwords.now poolowners.now))) words.old }
     ensures owners_after { owners.new ≡ column_stored places poolowners.now (take limit
-        (changed_pages upward places lo count (columns numbers.old words.old owners.old) (columns_before poolnumbers poolwords poolowners))) owners.old }
+        (changed_pages upward places lo count (columns numbers.old words.old owners.old) (columns poolnumbers.now poolwords.now poolowners.now))) owners.old }
 {
     let all = store_pages(
         numbers,

@@ -3,7 +3,7 @@ ghost use Rattle.std.specs.Prelude.{◌≡◌, ◌+◌, ◌*◌, ◌≤◌, leng
 ghost use Rattle.buffers.specs.Lists.{written};
 ghost use Rattle.pages.specs.Page.{part};
 ghost use Rattle.page_store.specs.Stores.{columns_change};
-ghost use Rattle.page_store.specs.Columns.{columns_before};
+ghost use Rattle.page_store.specs.Columns.{columns};
 
 use crate::items::{same_8, same_32, same_64};
 
@@ -20,7 +20,7 @@ pub fn page_differs(
     requires places_in_bounds { (page * places + places ≤ length numbers.now) × (page * places + places ≤ length poolnumbers.now) }
     requires places_in_bounds_2 { (page * places + places ≤ length words.now) × (page * places + places ≤ length poolwords.now) }
     requires places_in_bounds_3 { (page * places + places ≤ length owners.now) × (page * places + places ≤ length poolowners.now) }
-    ensures { result ≡ columns_change places (columns_before numbers words owners) (columns_before poolnumbers poolwords poolowners) page }
+    ensures { result ≡ columns_change places (columns numbers.now words.now owners.now) (columns poolnumbers.now poolwords.now poolowners.now) page }
 {
     let at = page * places;
     if !same_32(numbers, poolnumbers, at, places) {

@@ -21,12 +21,12 @@ fn survey_around(
     stop: usize,
     known: usize,
 ) -> usize
-    requires ready { Ready geometry table.now (held separators numbers words owners) }
+    requires ready { Ready geometry table.now (held separators.now numbers.now words.now owners.now) }
     requires homes_len { length homes.old ≡ geometry.parameters.pages * geometry.parameters.places }
     requires from_le_known { (from ≤ known) × (known < stop) }
     requires stop_le_pages { stop ≤ geometry.parameters.pages }
-    requires known { Known geometry.parameters geometry.growth (held separators numbers words owners) homes.old known }
-    ensures value { result ≡ first_unsound_lem geometry.parameters geometry.growth (before separators numbers words owners) from (stop - from) }
+    requires known { Known geometry.parameters geometry.growth (held separators.now numbers.now words.now owners.now) homes.old known }
+    ensures value { result ≡ first_unsound_lem geometry.parameters geometry.growth (held separators.now numbers.now words.now owners.now) from (stop - from) }
     ensures homes_after { result ≡ stop → homes.new ≡ homes_kept geometry from stop numbers.now homes.old }
 {
     let places = geometry.parameters.places as usize;
@@ -73,12 +73,12 @@ pub fn survey_pages(
     stop: usize,
     known: usize,
 ) -> usize
-    requires ready { Ready geometry table.now (held separators numbers words owners) }
+    requires ready { Ready geometry table.now (held separators.now numbers.now words.now owners.now) }
     requires homes_len { length homes.old ≡ geometry.parameters.pages * geometry.parameters.places }
     requires from_le_stop { from ≤ stop }
     requires stop_le_pages { stop ≤ geometry.parameters.pages }
-    requires known { Known geometry.parameters geometry.growth (held separators numbers words owners) homes.old known }
-    ensures value { result ≡ first_unsound_lem geometry.parameters geometry.growth (before separators numbers words owners) from (stop - from) }
+    requires known { Known geometry.parameters geometry.growth (held separators.now numbers.now words.now owners.now) homes.old known }
+    ensures value { result ≡ first_unsound_lem geometry.parameters geometry.growth (held separators.now numbers.now words.now owners.now) from (stop - from) }
     ensures homes_after { result ≡ stop → homes.new ≡ homes_kept geometry from stop numbers.now homes.old }
 {
     if from <= known && known < stop {

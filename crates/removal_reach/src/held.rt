@@ -27,9 +27,9 @@ pub fn remove_held(
     star: HeldStar,
     limit: usize,
 ) -> Outcome
-    requires removes { Removes geometry table.now (held separators numbers words owners) star }
+    requires removes { Removes geometry table.now (held separators.old numbers.old words.old owners.old) star }
     requires pooled { Pooled geometry.parameters pool.old waiting.old poolowners.old }
-    requires known { Known geometry.parameters geometry.growth (held separators numbers words owners) pool.old star.page }
+    requires known { Known geometry.parameters geometry.growth (held separators.old numbers.old words.old owners.old) pool.old star.page }
     ensures value { result ≡ removal_answer geometry.parameters geometry.growth (before separators numbers words owners) star.number star.page }
     ensures owners_value { after separators numbers words owners ≡ stopped_file true geometry.parameters (before separators numbers words owners)
         (removal_file geometry.parameters geometry.growth (before separators numbers words owners) star.number) limit }

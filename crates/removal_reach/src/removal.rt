@@ -1,7 +1,7 @@
 // The removal of a star decided over its reach.
 ghost use Rattle.std.specs.Prelude.{◌≡◌, ◌*◌, ◌≤◌, length};
 ghost use Rattle.placement.specs.Hash.{hash_of};
-ghost use Rattle.placement.specs.Lent.{held, before};
+ghost use Rattle.placement.specs.Lent.{held};
 ghost use Rattle.reach.specs.Known.{Known};
 ghost use Rattle.reach.specs.Reach.{removal_end};
 ghost use Rattle.removal_reach.specs.Removal.{Removes, DecidesRemoval};
@@ -26,12 +26,12 @@ fn decide_whole(
     last: usize,
     known: usize,
 ) -> Decision
-    requires removes { Removes geometry table.now (held separators numbers words owners) star }
+    requires removes { Removes geometry table.now (held separators.now numbers.now words.now owners.now) star }
     requires pool_len { (length pool.old ≡ geometry.parameters.pages * geometry.parameters.places) × (length waiting.old ≡ geometry.parameters.pages * geometry.parameters.places) }
     requires pages_in_bounds { geometry.parameters.pages ≤ length planned.old }
-    requires last_value { last ≡ removal_end (hash_of geometry.parameters geometry.growth) geometry.parameters.pages (held separators numbers words owners) star.home }
-    requires known { Known geometry.parameters geometry.growth (held separators numbers words owners) pool.old known }
-    ensures { DecidesRemoval geometry.parameters geometry.growth (before separators numbers words owners) star.number star.page pool.new planned.new result }
+    requires last_value { last ≡ removal_end (hash_of geometry.parameters geometry.growth) geometry.parameters.pages (held separators.now numbers.now words.now owners.now) star.home }
+    requires known { Known geometry.parameters geometry.growth (held separators.now numbers.now words.now owners.now) pool.old known }
+    ensures { DecidesRemoval geometry.parameters geometry.growth (held separators.now numbers.now words.now owners.now) star.number star.page pool.new planned.new result }
 {
     let from = star.home as usize;
     let stop = last + 1;
@@ -70,12 +70,12 @@ fn decide_long(
     star: HeldStar,
     last: usize,
 ) -> Decision
-    requires removes { Removes geometry table.now (held separators numbers words owners) star }
+    requires removes { Removes geometry table.now (held separators.now numbers.now words.now owners.now) star }
     requires pool_len { (length pool.old ≡ geometry.parameters.pages * geometry.parameters.places) × (length waiting.old ≡ geometry.parameters.pages * geometry.parameters.places) }
     requires pages_in_bounds { geometry.parameters.pages ≤ length planned.old }
-    requires last_value { last ≡ removal_end (hash_of geometry.parameters geometry.growth) geometry.parameters.pages (held separators numbers words owners) star.home }
-    requires known { Known geometry.parameters geometry.growth (held separators numbers words owners) pool.old star.page }
-    ensures { DecidesRemoval geometry.parameters geometry.growth (before separators numbers words owners) star.number star.page pool.new planned.new result }
+    requires last_value { last ≡ removal_end (hash_of geometry.parameters geometry.growth) geometry.parameters.pages (held separators.now numbers.now words.now owners.now) star.home }
+    requires known { Known geometry.parameters geometry.growth (held separators.now numbers.now words.now owners.now) pool.old star.page }
+    ensures { DecidesRemoval geometry.parameters geometry.growth (held separators.now numbers.now words.now owners.now) star.number star.page pool.new planned.new result }
 {
     let parameters = geometry.parameters;
     let from = star.home as usize;
@@ -126,11 +126,11 @@ pub fn decide_removal(
     planned: &mut [u8],
     star: HeldStar,
 ) -> Decision
-    requires removes { Removes geometry table.now (held separators numbers words owners) star }
+    requires removes { Removes geometry table.now (held separators.now numbers.now words.now owners.now) star }
     requires pool_len { (length pool.old ≡ geometry.parameters.pages * geometry.parameters.places) × (length waiting.old ≡ geometry.parameters.pages * geometry.parameters.places) }
     requires pages_in_bounds { geometry.parameters.pages ≤ length planned.old }
-    requires known { Known geometry.parameters geometry.growth (held separators numbers words owners) pool.old star.page }
-    ensures { DecidesRemoval geometry.parameters geometry.growth (before separators numbers words owners) star.number star.page pool.new planned.new result }
+    requires known { Known geometry.parameters geometry.growth (held separators.now numbers.now words.now owners.now) pool.old star.page }
+    ensures { DecidesRemoval geometry.parameters geometry.growth (held separators.now numbers.now words.now owners.now) star.number star.page pool.new planned.new result }
 {
     let from = star.home as usize;
     let last = reach::stretch_end(separators, placement::top_of(geometry.parameters), from);

@@ -22,7 +22,7 @@ pub fn replace_stretch(
     without: u32,
 ) -> bool
     requires parameters_value { valid_parameters parameters ≡ true }
-    requires stretch_ready { StretchReady parameters lo count (held separators numbers words owners) pool.old waiting.old poolowners.old }
+    requires stretch_ready { StretchReady parameters lo count (held separators.old numbers.old words.old owners.old) pool.old waiting.old poolowners.old }
     ensures value { result ≡ fitting parameters lo count without (before separators numbers words owners) pool.old }
     ensures owners_value { after separators numbers words owners ≡ restretched parameters lo count without (before separators numbers words owners) pool.old }
     ensures pool_unchanged { drop ((lo + count) * parameters.places) pool.new ≡ drop ((lo + count) * parameters.places) pool.old }

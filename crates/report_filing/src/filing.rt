@@ -1,12 +1,13 @@
 // The reports of a tray in order.
 ghost use Rattle.std.specs.Prelude.{◌≤◌, take};
 ghost use Rattle.placement.specs.Ready.{Pooled};
-ghost use Rattle.calls.specs.Answers.{pooled, cleared};
+ghost use Rattle.calls.specs.Answers.{cleared};
 ghost use Rattle.calls.specs.Shape.{Admitted};
 ghost use Rattle.calls.specs.Records.{closed_record};
 ghost use Rattle.reports.specs.Filing.{filed_from};
 ghost use Rattle.report_filing.specs.Filing.{Files};
-ghost use Rattle.placement.specs.Hash.{lent};
+ghost use Rattle.placement.specs.Lent.{held, before, after};
+ghost use Rattle.calls.specs.Lent.{pool_before};
 
 use crate::one_report::file_report;
 use calls::answers::Placed;
@@ -33,11 +34,11 @@ pub fn file_reports(
     reports: [Report; 256],
     count: u32,
 ) -> Filed
-    requires admitted { Admitted geometry.parameters geometry.growth (lent separators.old numbers.old words.old owners.old) }
+    requires admitted { Admitted geometry.parameters geometry.growth (held separators.old numbers.old words.old owners.old) }
     requires pooled { Pooled geometry.parameters poolnumbers.old poolwords.old poolowners.old }
     requires count_bound { count ≤ 256 }
-    ensures { Files (filed_from geometry.parameters (closed_record geometry.growth) (lent separators.old numbers.old words.old owners.old)
-        (cleared (pooled poolnumbers.old poolwords.old poolowners.old)) (take count reports)) result (lent separators.new numbers.new words.new owners.new) }
+    ensures { Files (filed_from geometry.parameters (closed_record geometry.growth) (before separators numbers words owners)
+        (cleared (pool_before poolnumbers poolwords poolowners)) (take count reports)) result (after separators numbers words owners) }
 {
     let table = generator::first_multipliers(geometry.parameters.multiplier);
     let mut filed = 0;

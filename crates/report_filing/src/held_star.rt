@@ -3,7 +3,7 @@ ghost use Rattle.std.specs.Prelude.{◌≡◌, true};
 ghost use Rattle.placement.specs.Ready.{Ready, Pooled};
 ghost use Rattle.calls.specs.Answers.{placed};
 ghost use Rattle.report_filing.specs.Filing.{Sought, ReportFiled};
-ghost use Rattle.placement.specs.Hash.{lent};
+ghost use Rattle.placement.specs.Lent.{held, before, after};
 
 use crate::positions::position_of;
 use call_guard::may_alter;
@@ -27,11 +27,11 @@ pub fn file_held(
     report: Report,
     named: Named,
 ) -> Placed
-    requires ready { Ready geometry table.now (lent separators.old numbers.old words.old owners.old) }
+    requires ready { Ready geometry table.now (held separators.old numbers.old words.old owners.old) }
     requires pooled { Pooled geometry.parameters poolnumbers.old poolwords.old poolowners.old }
-    requires sought { Sought geometry.parameters geometry.growth (lent separators.old numbers.old words.old owners.old) poolnumbers.old report named }
+    requires sought { Sought geometry.parameters geometry.growth (held separators.old numbers.old words.old owners.old) poolnumbers.old report named }
     requires held_value { named.held ≡ true }
-    ensures { ReportFiled geometry.parameters geometry.growth (lent separators.old numbers.old words.old owners.old) report (placed result) (lent separators.new numbers.new words.new owners.new) }
+    ensures { ReportFiled geometry.parameters geometry.growth (before separators numbers words owners) report (placed result) (after separators numbers words owners) }
 {
     if !may_alter(report.owner, named.owner) {
         return Placed::Refused(Refusal::NotOwner, named.place);

@@ -2,7 +2,7 @@
 ghost use Rattle.placement.specs.Ready.{Ready, Pooled};
 ghost use Rattle.calls.specs.Answers.{placed};
 ghost use Rattle.report_filing.specs.Filing.{ReportFiled};
-ghost use Rattle.placement.specs.Hash.{lent};
+ghost use Rattle.placement.specs.Lent.{held, before, after};
 
 use crate::held_star::file_held;
 use crate::new_star::file_new;
@@ -25,9 +25,9 @@ pub fn file_report(
     poolowners: &mut [u8],
     report: Report,
 ) -> Placed
-    requires ready { Ready geometry table.now (lent separators.old numbers.old words.old owners.old) }
+    requires ready { Ready geometry table.now (held separators.old numbers.old words.old owners.old) }
     requires pooled { Pooled geometry.parameters poolnumbers.old poolwords.old poolowners.old }
-    ensures { ReportFiled geometry.parameters geometry.growth (lent separators.old numbers.old words.old owners.old) report (placed result) (lent separators.new numbers.new words.new owners.new) }
+    ensures { ReportFiled geometry.parameters geometry.growth (before separators numbers words owners) report (placed result) (after separators numbers words owners) }
 {
     if !pages::position::number_valid(report.number) {
         return Placed::Refused(Refusal::BadNumber, 0);

@@ -3,7 +3,7 @@ ghost use Rattle.std.specs.Prelude.{◌≡◌, suc, ◌+◌, ◌*◌, ◌≤◌,
 ghost use Rattle.generator.specs.Shape.{first_multipliers_lem};
 ghost use Rattle.hashing.specs.Geometry.{multiplier_of};
 ghost use Rattle.placement.specs.Shape.{homes_of};
-ghost use Rattle.placement.specs.Lent.{held, before};
+ghost use Rattle.placement.specs.Lent.{held};
 ghost use Rattle.placement.specs.Ready.{Ready, Pooled};
 ghost use Rattle.reach.specs.Reach.{first_unsound_lem};
 ghost use Rattle.calls.specs.Shape.{spot_of};
@@ -31,12 +31,12 @@ fn compare_planned(
     waiting: &mut [u64],
     poolowners: &mut [u8],
 ) -> Spot
-    requires ready { Ready geometry (first_multipliers_lem (multiplier_of geometry.parameters)) (held separators numbers words owners) }
-    requires pages_value { first_unsound_lem geometry.parameters geometry.growth (held separators numbers words owners) 0 geometry.parameters.pages ≡ geometry.parameters.pages }
+    requires ready { Ready geometry (first_multipliers_lem (multiplier_of geometry.parameters)) (held separators.now numbers.now words.now owners.now) }
+    requires pages_value { first_unsound_lem geometry.parameters geometry.growth (held separators.now numbers.now words.now owners.now) 0 geometry.parameters.pages ≡ geometry.parameters.pages }
     requires pool_value { pool.old ≡ homes_of geometry.parameters geometry.growth numbers.now }
     requires waiting_len { length waiting.old ≡ geometry.parameters.pages * geometry.parameters.places }
     requires poolowners_len { length poolowners.old ≡ geometry.parameters.pages * geometry.parameters.places }
-    ensures place_value { result.page * suc geometry.parameters.places + result.place ≡ spot_of geometry.parameters geometry.growth (before separators numbers words owners) }
+    ensures place_value { result.page * suc geometry.parameters.places + result.place ≡ spot_of geometry.parameters geometry.growth (held separators.now numbers.now words.now owners.now) }
     ensures place_le_places { result.place ≤ geometry.parameters.places }
 {
     let places = geometry.parameters.places as usize;
@@ -83,9 +83,9 @@ pub fn check_file(
     waiting: &mut [u64],
     poolowners: &mut [u8],
 ) -> Verdict
-    requires ready { Ready geometry table.now (held separators numbers words owners) }
+    requires ready { Ready geometry table.now (held separators.now numbers.now words.now owners.now) }
     requires pooled { Pooled geometry.parameters pool.old waiting.old poolowners.old }
-    ensures { result ≡ verdict_for geometry.parameters geometry.growth (before separators numbers words owners) }
+    ensures { result ≡ verdict_for geometry.parameters geometry.growth (held separators.now numbers.now words.now owners.now) }
 {
     let pages = geometry.parameters.pages as usize;
     let unsound = reach::survey_pages(

@@ -294,11 +294,11 @@ fn first_unsound_near(
     from: usize,
     stop: usize,
 ) -> usize
-    requires ready { Ready geometry table.now (held separators numbers words owners) }
+    requires ready { Ready geometry table.now (held separators.now numbers.now words.now owners.now) }
     requires from_le_stop { (from ≤ stop) × (stop ≤ geometry.parameters.pages) }
     requires places_in_bounds { to + (stop - from) * geometry.parameters.places ≤ length homes.now }
     requires homes_at { HomesAt geometry ((stop - from) * geometry.parameters.places) (from * geometry.parameters.places) to numbers.now homes.now }
-    ensures { Lowest (sound_at geometry.parameters geometry.growth (before separators numbers words owners)) from stop result }
+    ensures { Lowest (sound_at geometry.parameters geometry.growth (held separators.now numbers.now words.now owners.now)) from stop result }
 {
     let places = geometry.parameters.places as usize;
     let mut page = from;
@@ -338,10 +338,10 @@ pub fn survey(
     from: usize,
     stop: usize,
 ) -> usize
-    requires ready { Ready geometry table.now (held separators numbers words owners) }
+    requires ready { Ready geometry table.now (held separators.now numbers.now words.now owners.now) }
     requires from_le_stop { (from ≤ stop) × (stop ≤ geometry.parameters.pages) }
     requires places_in_bounds { to + (stop - from) * geometry.parameters.places ≤ length homes.old }
-    ensures lowest { Lowest (sound_at geometry.parameters geometry.growth (before separators numbers words owners)) from stop result }
+    ensures lowest { Lowest (sound_at geometry.parameters geometry.growth (held separators.now numbers.now words.now owners.now)) from stop result }
     ensures homes_after { homes.new ≡ paste homes.old to
         (homes_of geometry.parameters geometry.growth (drop (from * geometry.parameters.places) numbers.now))
         ((stop - from) * geometry.parameters.places) }

@@ -1,13 +1,13 @@
 // A step of an open growth: the next page of it in the second set, document 02 (xiii).
 ghost use Rattle.std.specs.Prelude.{◌≡◌, true, ◌<◌};
 ghost use Rattle.placement.specs.Shape.{Sized};
-ghost use Rattle.placement.specs.Lent.{held, before};
+ghost use Rattle.placement.specs.Lent.{held, before, after};
 ghost use Rattle.placement.specs.Ready.{Pooled};
-ghost use Rattle.calls.specs.Answers.{pooled, Pool};
+ghost use Rattle.calls.specs.Answers.{Pool};
 ghost use Rattle.calls.specs.Shape.{Admitted};
 ghost use Rattle.calls.specs.Records.{LeavesStep, step_under, valid_steps};
 ghost use Rattle.starfile.specs.Steps.{step_admitted, StoresStep, advanced_by};
-ghost use Rattle.placement.specs.Hash.{lent};
+ghost use Rattle.calls.specs.Lent.{pool_before, pool_after_lem};
 
 use crate::opening::both_fit;
 use crate::whole::{accepted, write_page};
@@ -32,9 +32,9 @@ pub fn step_growth(
     poolwords: &mut [u64],
     poolowners: &mut [u8],
 ) -> Recorded
-    ensures leaves { LeavesStep (step_under parameters growth (before separators numbers words owners)
-        (lent secondseparators.old secondnumbers.old secondwords.old secondowners.old) (pooled poolnumbers.old poolwords.old poolowners.old))
-        result (lent secondseparators.new secondnumbers.new secondwords.new secondowners.new) (pooled poolnumbers.new poolwords.new poolowners.new) }
+    ensures leaves { LeavesStep (step_under parameters growth (held separators.now numbers.now words.now owners.now)
+        (before secondseparators secondnumbers secondwords secondowners) (pool_before poolnumbers poolwords poolowners))
+        result (after secondseparators secondnumbers secondwords secondowners) (pool_after_lem poolnumbers poolwords poolowners) }
 {
     let fits = both_fit(
         parameters,
@@ -91,12 +91,12 @@ fn step_second(
     poolwords: &mut [u64],
     poolowners: &mut [u8],
 ) -> Recorded
-    requires admitted { Admitted parameters growth.state (held separators numbers words owners) }
-    requires sized { Sized parameters.places parameters.pages (lent secondseparators.old secondnumbers.old secondwords.old secondowners.old) }
+    requires admitted { Admitted parameters growth.state (held separators.now numbers.now words.now owners.now) }
+    requires sized { Sized parameters.places parameters.pages (held secondseparators.old secondnumbers.old secondwords.old secondowners.old) }
     requires pooled { Pooled parameters poolnumbers.old poolwords.old poolowners.old }
     requires growth_value { valid_steps parameters growth ≡ true }
-    ensures { (pool : Pool) → StoresStep (step_admitted parameters growth (before separators numbers words owners)
-        (lent secondseparators.old secondnumbers.old secondwords.old secondowners.old) pool) result (lent secondseparators.new secondnumbers.new secondwords.new secondowners.new) }
+    ensures { (pool : Pool) → StoresStep (step_admitted parameters growth (held separators.now numbers.now words.now owners.now)
+        (before secondseparators secondnumbers secondwords secondowners) pool) result (after secondseparators secondnumbers secondwords secondowners) }
 {
     if !growth.growing {
         return Recorded {

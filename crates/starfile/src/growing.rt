@@ -1,9 +1,10 @@
 // The calls that leave a growth state, with the record that holds it.
 ghost use Rattle.std.specs.Prelude.{◌≡◌};
-ghost use Rattle.calls.specs.Answers.{pooled, Leaves, unpooled, placed};
+ghost use Rattle.calls.specs.Answers.{Leaves, unpooled, placed};
 ghost use Rattle.calls.specs.Calls.{make_of};
 ghost use Rattle.calls.specs.Records.{grow_under, shrink_under, record_after, closed_record};
-ghost use Rattle.placement.specs.Hash.{lent};
+ghost use Rattle.placement.specs.Lent.{before, after};
+ghost use Rattle.calls.specs.Lent.{pool_before, pool_after_lem};
 
 use call_guard::{at_rest, at_rest_after, turn_away};
 use calls::records::{GrowthRecord, Recorded};
@@ -17,9 +18,9 @@ pub fn make(
     words: &mut [u64],
     owners: &mut [u8],
 ) -> Recorded
-    ensures leaves { Leaves (make_of parameters (lent separators.old numbers.old words.old owners.old) unpooled)
-        (placed result.answer) (lent separators.new numbers.new words.new owners.new) unpooled }
-    ensures growth_after { result.growth ≡ closed_record (make_of parameters (lent separators.old numbers.old words.old owners.old) unpooled).growth }
+    ensures leaves { Leaves (make_of parameters (before separators numbers words owners) unpooled)
+        (placed result.answer) (after separators numbers words owners) unpooled }
+    ensures growth_after { result.growth ≡ closed_record (make_of parameters (before separators numbers words owners) unpooled).growth }
 {
     at_rest_after(call_make::make(parameters, separators, numbers, words, owners))
 }
@@ -36,9 +37,9 @@ pub fn grow(
     poolwords: &mut [u64],
     poolowners: &mut [u8],
 ) -> Recorded
-    ensures leaves { Leaves (grow_under parameters growth (lent separators.old numbers.old words.old owners.old) (pooled poolnumbers.old poolwords.old poolowners.old))
-        (placed result.answer) (lent separators.new numbers.new words.new owners.new) (pooled poolnumbers.new poolwords.new poolowners.new) }
-    ensures growth_after { result.growth ≡ record_after growth (grow_under parameters growth (lent separators.old numbers.old words.old owners.old) (pooled poolnumbers.old poolwords.old poolowners.old)) }
+    ensures leaves { Leaves (grow_under parameters growth (before separators numbers words owners) (pool_before poolnumbers poolwords poolowners))
+        (placed result.answer) (after separators numbers words owners) (pool_after_lem poolnumbers poolwords poolowners) }
+    ensures growth_after { result.growth ≡ record_after growth (grow_under parameters growth (before separators numbers words owners) (pool_before poolnumbers poolwords poolowners)) }
 {
     if !at_rest(growth) {
         let answer = turn_away(
@@ -79,9 +80,9 @@ pub fn shrink(
     poolwords: &mut [u64],
     poolowners: &mut [u8],
 ) -> Recorded
-    ensures leaves { Leaves (shrink_under parameters growth (lent separators.old numbers.old words.old owners.old) (pooled poolnumbers.old poolwords.old poolowners.old))
-        (placed result.answer) (lent separators.new numbers.new words.new owners.new) (pooled poolnumbers.new poolwords.new poolowners.new) }
-    ensures growth_after { result.growth ≡ record_after growth (shrink_under parameters growth (lent separators.old numbers.old words.old owners.old) (pooled poolnumbers.old poolwords.old poolowners.old)) }
+    ensures leaves { Leaves (shrink_under parameters growth (before separators numbers words owners) (pool_before poolnumbers poolwords poolowners))
+        (placed result.answer) (after separators numbers words owners) (pool_after_lem poolnumbers poolwords poolowners) }
+    ensures growth_after { result.growth ≡ record_after growth (shrink_under parameters growth (before separators numbers words owners) (pool_before poolnumbers poolwords poolowners)) }
 {
     if !at_rest(growth) {
         let answer = turn_away(

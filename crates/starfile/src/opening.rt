@@ -1,13 +1,13 @@
 // A growth opened into a second set of pages: document 02 (xiii), "opening is step 0".
 ghost use Rattle.std.specs.Prelude.{◌≡◌, ◌&&◌, ◌*◌, length};
 ghost use Rattle.placement.specs.Shape.{Sized};
-ghost use Rattle.placement.specs.Lent.{held, before};
-ghost use Rattle.calls.specs.Answers.{pooled, Pool};
+ghost use Rattle.placement.specs.Lent.{held, before, after};
+ghost use Rattle.calls.specs.Answers.{Pool};
 ghost use Rattle.calls.specs.Calls.{file_lengths, pool_lengths};
 ghost use Rattle.calls.specs.Shape.{Admitted};
 ghost use Rattle.calls.specs.Records.{LeavesStep, open_under};
 ghost use Rattle.starfile.specs.Steps.{open_admitted, StoresStep};
-ghost use Rattle.placement.specs.Hash.{lent};
+ghost use Rattle.calls.specs.Lent.{pool_before, pool_after_lem};
 
 use crate::whole::{accepted, plan_whole};
 use call_guard::{admit, all_fit, file_fits};
@@ -31,9 +31,9 @@ pub fn open_growth(
     poolwords: &mut [u64],
     poolowners: &mut [u8],
 ) -> Recorded
-    ensures leaves { LeavesStep (open_under parameters growth (before separators numbers words owners)
-        (lent secondseparators.old secondnumbers.old secondwords.old secondowners.old) (pooled poolnumbers.old poolwords.old poolowners.old))
-        result (lent secondseparators.new secondnumbers.new secondwords.new secondowners.new) (pooled poolnumbers.new poolwords.new poolowners.new) }
+    ensures leaves { LeavesStep (open_under parameters growth (held separators.now numbers.now words.now owners.now)
+        (before secondseparators secondnumbers secondwords secondowners) (pool_before poolnumbers poolwords poolowners))
+        result (after secondseparators secondnumbers secondwords secondowners) (pool_after_lem poolnumbers poolwords poolowners) }
 {
     let fits = both_fit(
         parameters,
@@ -121,12 +121,12 @@ fn open_second(
     poolnumbers: &mut [u32],
     poolwords: &mut [u64],
 ) -> Recorded
-    requires admitted { Admitted parameters growth.state (held separators numbers words owners) }
-    requires sized { Sized parameters.places parameters.pages (lent secondseparators.old secondnumbers.old secondwords.old secondowners.old) }
+    requires admitted { Admitted parameters growth.state (held separators.now numbers.now words.now owners.now) }
+    requires sized { Sized parameters.places parameters.pages (held secondseparators.old secondnumbers.old secondwords.old secondowners.old) }
     requires poolnumbers_len { length poolnumbers.old ≡ parameters.pages * parameters.places }
     requires poolwords_len { length poolwords.old ≡ parameters.pages * parameters.places }
-    ensures { (pool : Pool) → StoresStep (open_admitted parameters growth (before separators numbers words owners)
-        (lent secondseparators.old secondnumbers.old secondwords.old secondowners.old) pool) result (lent secondseparators.new secondnumbers.new secondwords.new secondowners.new) }
+    ensures { (pool : Pool) → StoresStep (open_admitted parameters growth (held separators.now numbers.now words.now owners.now)
+        (before secondseparators secondnumbers secondwords secondowners) pool) result (after secondseparators secondnumbers secondwords secondowners) }
 {
     if growth.growing {
         return Recorded {

@@ -1,8 +1,9 @@
 // The calls that read the file: between the steps of a growth they answer from the old file.
 ghost use Rattle.std.specs.Prelude.{◌≡◌};
-ghost use Rattle.placement.specs.Lent.{before};
-ghost use Rattle.calls.specs.Answers.{pooled, Leaves, unpooled, sought, due_said, checked};
+ghost use Rattle.placement.specs.Lent.{held};
+ghost use Rattle.calls.specs.Answers.{Leaves, unpooled, sought, due_said, checked};
 ghost use Rattle.calls.specs.Records.{look_up_under, due_under, check_under};
+ghost use Rattle.calls.specs.Lent.{pool_before, pool_after_lem};
 
 use call_guard::steps_valid;
 use calls::answers::{Checked, Due, Found, Refusal};
@@ -19,7 +20,7 @@ pub fn look_up(
     owners: &[u8],
     number: u32,
 ) -> Found
-    ensures answer { sought result ≡ (look_up_under parameters growth (before separators numbers words owners) unpooled number).answer }
+    ensures answer { sought result ≡ (look_up_under parameters growth (held separators.now numbers.now words.now owners.now) unpooled number).answer }
 {
     if !steps_valid(parameters, growth) {
         return Found::Refused(Refusal::BadParameters, 0);
@@ -43,7 +44,7 @@ pub fn due(
     words: &[u64],
     owners: &[u8],
 ) -> Due
-    ensures answer { due_said result ≡ (due_under parameters growth (before separators numbers words owners) unpooled).answer }
+    ensures answer { due_said result ≡ (due_under parameters growth (held separators.now numbers.now words.now owners.now) unpooled).answer }
 {
     if !steps_valid(parameters, growth) {
         return Due::Refused(Refusal::BadParameters);
@@ -63,8 +64,8 @@ pub fn check(
     poolwords: &mut [u64],
     poolowners: &mut [u8],
 ) -> Checked
-    ensures leaves { Leaves (check_under parameters growth (before separators numbers words owners) (pooled poolnumbers.old poolwords.old poolowners.old))
-        (checked result) (before separators numbers words owners) (pooled poolnumbers.new poolwords.new poolowners.new) }
+    ensures leaves { Leaves (check_under parameters growth (held separators.now numbers.now words.now owners.now) (pool_before poolnumbers poolwords poolowners))
+        (checked result) (held separators.now numbers.now words.now owners.now) (pool_after_lem poolnumbers poolwords poolowners) }
 {
     if !steps_valid(parameters, growth) {
         return Checked::Refused(Refusal::BadParameters, 0);

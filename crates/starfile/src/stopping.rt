@@ -1,7 +1,8 @@
 // The calls that write one star, stopped after so many page stores: document 02 (xii). A page is stored whole, and the separators after the last page.
-ghost use Rattle.calls.specs.Answers.{pooled, Leaves, unpooled, placed};
+ghost use Rattle.calls.specs.Answers.{Leaves, unpooled, placed};
 ghost use Rattle.calls.specs.Stores.{enter_stopped_under, change_stopped_under, remove_stopped_under};
-ghost use Rattle.placement.specs.Hash.{lent};
+ghost use Rattle.placement.specs.Lent.{held, before, after};
+ghost use Rattle.calls.specs.Lent.{pool_before, pool_after_lem};
 
 use call_guard::{at_rest, file_fits, out_of_turn, turn_away};
 use calls::answers::Placed;
@@ -25,8 +26,8 @@ pub fn enter_stopped(
     position: Position,
     stores: u32,
 ) -> Placed
-    ensures leaves { Leaves (enter_stopped_under parameters growth (lent separators.old numbers.old words.old owners.old) (pooled poolnumbers.old poolwords.old poolowners.old) caller number position stores)
-        (placed result) (lent separators.new numbers.new words.new owners.new) (pooled poolnumbers.new poolwords.new poolowners.new) }
+    ensures leaves { Leaves (enter_stopped_under parameters growth (before separators numbers words owners) (pool_before poolnumbers poolwords poolowners) caller number position stores)
+        (placed result) (after separators numbers words owners) (pool_after_lem poolnumbers poolwords poolowners) }
 {
     if !at_rest(growth) {
         return turn_away(
@@ -71,8 +72,8 @@ pub fn change_stopped(
     position: Position,
     stores: u32,
 ) -> Placed
-    ensures leaves { Leaves (change_stopped_under parameters growth (lent separators.now numbers.now words.old owners.now) unpooled caller number position stores)
-        (placed result) (lent separators.now numbers.now words.new owners.now) unpooled }
+    ensures leaves { Leaves (change_stopped_under parameters growth (held separators.now numbers.now words.old owners.now) unpooled caller number position stores)
+        (placed result) (held separators.now numbers.now words.new owners.now) unpooled }
 {
     if !at_rest(growth) {
         let fits = file_fits(
@@ -113,8 +114,8 @@ pub fn remove_stopped(
     number: u32,
     stores: u32,
 ) -> Placed
-    ensures leaves { Leaves (remove_stopped_under parameters growth (lent separators.old numbers.old words.old owners.old) (pooled poolnumbers.old poolwords.old poolowners.old) caller number stores)
-        (placed result) (lent separators.new numbers.new words.new owners.new) (pooled poolnumbers.new poolwords.new poolowners.new) }
+    ensures leaves { Leaves (remove_stopped_under parameters growth (before separators numbers words owners) (pool_before poolnumbers poolwords poolowners) caller number stores)
+        (placed result) (after separators numbers words owners) (pool_after_lem poolnumbers poolwords poolowners) }
 {
     if !at_rest(growth) {
         return turn_away(

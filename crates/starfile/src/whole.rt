@@ -1,11 +1,10 @@
 // The growth that is done in steps, as a whole: its answer and growth state, and one page of the file that it leaves. The file is only read.
 ghost use Rattle.std.specs.Prelude.{◌≡◌, ◌*◌, ◌<◌, length};
 ghost use Rattle.placement.specs.Shape.{Sized};
-ghost use Rattle.placement.specs.Lent.{held, before};
+ghost use Rattle.placement.specs.Lent.{held, before, after};
 ghost use Rattle.placement.specs.Ready.{Pooled};
 ghost use Rattle.calls.specs.Shape.{Admitted};
 ghost use Rattle.starfile.specs.Steps.{GrowsAs, StepsAs, accepted_by};
-ghost use Rattle.placement.specs.Hash.{lent};
 
 use call_whole_file::{Step, step_of};
 use calls::answers::{Grown, Placed};
@@ -23,10 +22,10 @@ pub fn plan_whole(
     poolnumbers: &mut [u32],
     poolwords: &mut [u64],
 ) -> Grown
-    requires admitted { Admitted parameters growth (held separators numbers words owners) }
+    requires admitted { Admitted parameters growth (held separators.now numbers.now words.now owners.now) }
     requires poolnumbers_len { length poolnumbers.old ≡ parameters.pages * parameters.places }
     requires poolwords_len { length poolwords.old ≡ parameters.pages * parameters.places }
-    ensures { GrowsAs parameters growth (before separators numbers words owners) result }
+    ensures { GrowsAs parameters growth (held separators.now numbers.now words.now owners.now) result }
 {
     let geometry = Geometry { parameters, growth };
     let step = step_of(geometry, false);
@@ -67,13 +66,13 @@ pub fn write_page(
     poolowners: &mut [u8],
     step: usize,
 ) -> Grown
-    requires admitted { Admitted parameters growth (held separators numbers words owners) }
-    requires sized { Sized parameters.places parameters.pages (lent secondseparators.old secondnumbers.old secondwords.old secondowners.old) }
+    requires admitted { Admitted parameters growth (held separators.now numbers.now words.now owners.now) }
+    requires sized { Sized parameters.places parameters.pages (held secondseparators.old secondnumbers.old secondwords.old secondowners.old) }
     requires pooled { Pooled parameters poolnumbers.old poolwords.old poolowners.old }
     requires step_lt_pages { step < parameters.pages }
-    ensures grows_as { GrowsAs parameters growth (before separators numbers words owners) result }
-    ensures steps_as { StepsAs parameters growth (before separators numbers words owners)
-        (lent secondseparators.old secondnumbers.old secondwords.old secondowners.old) step (lent secondseparators.new secondnumbers.new secondwords.new secondowners.new) }
+    ensures grows_as { GrowsAs parameters growth (held separators.now numbers.now words.now owners.now) result }
+    ensures steps_as { StepsAs parameters growth (held separators.now numbers.now words.now owners.now)
+        (before secondseparators secondnumbers secondwords secondowners) step (after secondseparators secondnumbers secondwords secondowners) }
 {
     let geometry = Geometry { parameters, growth };
     let way = step_of(geometry, false);

@@ -1,7 +1,8 @@
 // The calls that write one star: each is refused while a growth is open.
-ghost use Rattle.calls.specs.Answers.{pooled, Leaves, unpooled, placed};
+ghost use Rattle.calls.specs.Answers.{Leaves, unpooled, placed};
 ghost use Rattle.calls.specs.Records.{enter_under, cascade_under, change_under, remove_under};
-ghost use Rattle.placement.specs.Hash.{lent};
+ghost use Rattle.placement.specs.Lent.{held, before, after};
+ghost use Rattle.calls.specs.Lent.{pool_before, pool_after_lem};
 
 use call_guard::{at_rest, file_fits, out_of_turn, turn_away};
 use calls::answers::Placed;
@@ -24,8 +25,8 @@ pub fn enter(
     number: u32,
     position: Position,
 ) -> Placed
-    ensures leaves { Leaves (enter_under parameters growth (lent separators.old numbers.old words.old owners.old) (pooled poolnumbers.old poolwords.old poolowners.old) caller number position)
-        (placed result) (lent separators.new numbers.new words.new owners.new) (pooled poolnumbers.new poolwords.new poolowners.new) }
+    ensures leaves { Leaves (enter_under parameters growth (before separators numbers words owners) (pool_before poolnumbers poolwords poolowners) caller number position)
+        (placed result) (after separators numbers words owners) (pool_after_lem poolnumbers poolwords poolowners) }
 {
     if !at_rest(growth) {
         return turn_away(
@@ -71,8 +72,8 @@ pub fn cascade(
     number: u32,
     position: Position,
 ) -> Placed
-    ensures leaves { Leaves (cascade_under parameters growth (lent separators.old numbers.old words.old owners.old) (pooled poolnumbers.old poolwords.old poolowners.old) caller number position)
-        (placed result) (lent separators.new numbers.new words.new owners.new) (pooled poolnumbers.new poolwords.new poolowners.new) }
+    ensures leaves { Leaves (cascade_under parameters growth (before separators numbers words owners) (pool_before poolnumbers poolwords poolowners) caller number position)
+        (placed result) (after separators numbers words owners) (pool_after_lem poolnumbers poolwords poolowners) }
 {
     if !at_rest(growth) {
         return turn_away(
@@ -115,8 +116,8 @@ pub fn change(
     number: u32,
     position: Position,
 ) -> Placed
-    ensures leaves { Leaves (change_under parameters growth (lent separators.now numbers.now words.old owners.now) unpooled caller number position)
-        (placed result) (lent separators.now numbers.now words.new owners.now) unpooled }
+    ensures leaves { Leaves (change_under parameters growth (held separators.now numbers.now words.old owners.now) unpooled caller number position)
+        (placed result) (held separators.now numbers.now words.new owners.now) unpooled }
 {
     if !at_rest(growth) {
         let fits = file_fits(
@@ -155,8 +156,8 @@ pub fn remove(
     caller: u8,
     number: u32,
 ) -> Placed
-    ensures leaves { Leaves (remove_under parameters growth (lent separators.old numbers.old words.old owners.old) (pooled poolnumbers.old poolwords.old poolowners.old) caller number)
-        (placed result) (lent separators.new numbers.new words.new owners.new) (pooled poolnumbers.new poolwords.new poolowners.new) }
+    ensures leaves { Leaves (remove_under parameters growth (before separators numbers words owners) (pool_before poolnumbers poolwords poolowners) caller number)
+        (placed result) (after separators numbers words owners) (pool_after_lem poolnumbers poolwords poolowners) }
 {
     if !at_rest(growth) {
         return turn_away(

@@ -1,7 +1,7 @@
 // The functions of crate growth_record for a caller who keeps the growth record by value: each lends a copy of it and answers what it holds
 // afterwards. They promise what those of starfile do.
 ghost use Rattle.std.specs.Prelude.{◌≡◌};
-ghost use Rattle.placement.specs.Lent.{before, after};
+ghost use Rattle.placement.specs.Lent.{held, before, after};
 ghost use Rattle.calls.specs.Answers.{Leaves, placed};
 ghost use Rattle.calls.specs.Lent.{pool_before, pool_after_lem};
 ghost use Rattle.calls.specs.Records.{grow_under, shrink_under, record_after, open_under, step_under, LeavesStep};
@@ -82,7 +82,7 @@ pub fn open_growth(
     poolwords: &mut [u64],
     poolowners: &mut [u8],
 ) -> Recorded
-    ensures leaves { LeavesStep (open_under parameters growth (before separators numbers words owners)
+    ensures leaves { LeavesStep (open_under parameters growth (held separators.now numbers.now words.now owners.now)
         (before secondseparators secondnumbers secondwords secondowners) (pool_before poolnumbers poolwords poolowners))
         result (after secondseparators secondnumbers secondwords secondowners) (pool_after_lem poolnumbers poolwords poolowners) }
 {
@@ -119,7 +119,7 @@ pub fn step_growth(
     poolwords: &mut [u64],
     poolowners: &mut [u8],
 ) -> Recorded
-    ensures leaves { LeavesStep (step_under parameters growth (before separators numbers words owners)
+    ensures leaves { LeavesStep (step_under parameters growth (held separators.now numbers.now words.now owners.now)
         (before secondseparators secondnumbers secondwords secondowners) (pool_before poolnumbers poolwords poolowners))
         result (after secondseparators secondnumbers secondwords secondowners) (pool_after_lem poolnumbers poolwords poolowners) }
 {

@@ -1,5 +1,5 @@
 // Growth, at once and in steps, and shrinking by crate growth_record, whose functions update a lent record.
-ghost use Rattle.placement.specs.Lent.{before, after};
+ghost use Rattle.placement.specs.Lent.{held, before, after};
 ghost use Rattle.calls.specs.Records.{grow_under, shrink_under, record_after, open_under, step_under};
 ghost use Rattle.calls.specs.Lent.{pool_before, pool_after_lem};
 ghost use Rattle.starfile_tests.specs.Reply.{TestReplies, TestRepliesStep, file_parameters, growth_record_lem};
@@ -87,7 +87,7 @@ pub extern "C" fn sft_record_open_growth(
     poolwords: &mut [u64],
     poolowners: &mut [u8],
 ) -> Reply
-    ensures { TestRepliesStep (open_under (file_parameters parameters) (growth_record_lem growth) (before separators numbers words owners)
+    ensures { TestRepliesStep (open_under (file_parameters parameters) (growth_record_lem growth) (held separators.now numbers.now words.now owners.now)
         (before secondseparators secondnumbers secondwords secondowners) (pool_before poolnumbers poolwords poolowners))
         result (after secondseparators secondnumbers secondwords secondowners) (pool_after_lem poolnumbers poolwords poolowners) }
 {
@@ -127,7 +127,7 @@ pub extern "C" fn sft_record_step_growth(
     poolwords: &mut [u64],
     poolowners: &mut [u8],
 ) -> Reply
-    ensures { TestRepliesStep (step_under (file_parameters parameters) (growth_record_lem growth) (before separators numbers words owners)
+    ensures { TestRepliesStep (step_under (file_parameters parameters) (growth_record_lem growth) (held separators.now numbers.now words.now owners.now)
         (before secondseparators secondnumbers secondwords secondowners) (pool_before poolnumbers poolwords poolowners))
         result (after secondseparators secondnumbers secondwords secondowners) (pool_after_lem poolnumbers poolwords poolowners) }
 {

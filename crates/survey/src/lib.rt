@@ -4,7 +4,7 @@
 
 ghost use Rattle.std.specs.Prelude.{◌≡◌, ◌-◌, ◌*◌, ◌≤◌, ◌<◌};
 ghost use Rattle.placement.specs.Hash.{sound_at};
-ghost use Rattle.placement.specs.Lent.{held, before};
+ghost use Rattle.placement.specs.Lent.{held};
 ghost use Rattle.placement.specs.Ready.{Ready};
 ghost use Rattle.reach.specs.Reach.{first_unsound_lem};
 ghost use Rattle.soundness.specs.Stretch.{Lowest};
@@ -22,10 +22,10 @@ fn first_unsound(
     from: usize,
     stop: usize,
 ) -> usize
-    requires ready { Ready geometry table.now (held separators numbers words owners) }
+    requires ready { Ready geometry table.now (held separators.now numbers.now words.now owners.now) }
     requires from_le_stop { (from ≤ stop) × (stop ≤ geometry.parameters.pages) }
     requires places_bound { (stop - from) * geometry.parameters.places ≤ 1024 }
-    ensures { Lowest (sound_at geometry.parameters geometry.growth (before separators numbers words owners)) from stop result }
+    ensures { Lowest (sound_at geometry.parameters geometry.growth (held separators.now numbers.now words.now owners.now)) from stop result }
 {
     let mut homes = [0u32; 1024];
     soundness::survey(
@@ -53,8 +53,8 @@ pub fn lowest_unsound(
     words: &[u64],
     owners: &[u8],
 ) -> usize
-    requires { Ready geometry table.now (held separators numbers words owners) }
-    ensures { result ≡ first_unsound_lem geometry.parameters geometry.growth (before separators numbers words owners) 0 geometry.parameters.pages }
+    requires { Ready geometry table.now (held separators.now numbers.now words.now owners.now) }
+    ensures { result ≡ first_unsound_lem geometry.parameters geometry.growth (held separators.now numbers.now words.now owners.now) 0 geometry.parameters.pages }
 {
     let pages = geometry.parameters.pages as usize;
     let most = 1024 / geometry.parameters.places as usize;

@@ -106,7 +106,7 @@ fn file_admitted(
     loaded: [Report; 256],
     count: u32,
 ) -> Filing
-    requires admitted { Admitted geometry.parameters geometry.growth (held separators numbers words owners) }
+    requires admitted { Admitted geometry.parameters geometry.growth (held separators.old numbers.old words.old owners.old) }
     requires pooled { Pooled geometry.parameters poolnumbers.old poolwords.old poolowners.old }
     requires multiplier_value { (valid_multiplier geometry.parameters.multiplier ≡ true) × ((length filter.old ≡ 32) × (count ≤ 256)) }
     ensures { FiledBelow geometry.parameters.multiplier count loaded

@@ -1,6 +1,6 @@
 // The combined look-up: "tries the filter, then the tray, then the file".
 ghost use Rattle.std.specs.Prelude.{◌≡◌, ◌&&◌, ◌≤◌, length};
-ghost use Rattle.placement.specs.Lent.{before};
+ghost use Rattle.placement.specs.Lent.{held};
 ghost use Rattle.calls.specs.Answers.{refusal_number, sought};
 ghost use Rattle.calls.specs.Shape.{admission_number};
 ghost use Rattle.calls.specs.Calls.{file_lengths};
@@ -37,7 +37,7 @@ pub fn look_up(
     filter: &[u64],
     number: u32,
 ) -> Found
-    ensures answer { sought result ≡ combined_of parameters growth (before separators numbers words owners) (tray_of reports.now count) filter.now number }
+    ensures answer { sought result ≡ combined_of parameters growth (held separators.now numbers.now words.now owners.now) (tray_of reports.now count) filter.now number }
 {
     let screened = screen(
         parameters,
@@ -130,7 +130,7 @@ fn answer(
 ) -> Found
     requires { admission_number screened.admission ≤ 3 }
     ensures { sought result ≡ answered_unless (admission_number screened.admission)
-        (or_plain parameters.pages found (plain_answer parameters growth (before separators numbers words owners) number)) }
+        (or_plain parameters.pages found (plain_answer parameters growth (held separators.now numbers.now words.now owners.now) number)) }
 {
     let admission = screened.admission;
     if let Admission::Refused(refusal) = admission {

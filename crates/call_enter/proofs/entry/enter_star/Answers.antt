@@ -77,7 +77,7 @@ cascade-requires c =
         homed = found.home_is;
         here = found.page_is;
       };
-      pooled = record { of_numbers = c.find_kept-named.auto.poolnumbers ∙ c.requires.pooled.of_numbers; of_words_lem = c.requires.pooled.of_words_lem; of_owners = c.requires.pooled.of_owners };
+      pooled = record { of_numbers = c.find_kept-named.auto.pool ∙ c.requires.pooled.of_numbers; of_words_lem = c.requires.pooled.of_words_lem; of_owners = c.requires.pooled.of_owners };
       known = c.find_kept-named.ensures.known opened;
     }
 
@@ -127,7 +127,7 @@ enter_star-requires c =
         homed = found.home_is;
         here = found.page_is;
       };
-      pooled = record { of_numbers = c.find_kept-named.auto.poolnumbers ∙ c.requires.pooled.of_numbers; of_words_lem = c.requires.pooled.of_words_lem; of_owners = c.requires.pooled.of_owners };
+      pooled = record { of_numbers = c.find_kept-named.auto.pool ∙ c.requires.pooled.of_numbers; of_words_lem = c.requires.pooled.of_words_lem; of_owners = c.requires.pooled.of_owners };
       known = c.find_kept-named.ensures.known opened;
       place_value = found.place_is_lem opened ∙ ap (λ (q : ℕ). place_of c.args.number (part c.args.parameters.places q c.args.numbers.now)) (sym found.page_is);
     }

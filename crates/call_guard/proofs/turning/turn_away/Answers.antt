@@ -15,5 +15,5 @@ pub returns : goal.returns
 unfolding placed file_fits_lem pool_fits_lem
 returns c =
     λ after.
-    held_up _ _ _ _ _ after _ c.requires c.admit.ensures c.all_fit-fits.ensures c.enum_told-1.given.1
+    held_up _ _ _ _ _ after _ c.requires c.admit.ensures c.all_fit-fits.ensures c.in_default.is
     (cleared-is _ _ _ _ _ _ _ _ _ c.clear.ensures.pool_after c.clear.ensures.waiting_after c.clear.ensures.poolowners_after refl refl refl)

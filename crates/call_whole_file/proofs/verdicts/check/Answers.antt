@@ -66,5 +66,5 @@ returns c =
       answers = ap checked (c.verdict_checked.ensures ∙ ap (λ v. verdict_checked_lem v c.args.parameters.places) done.ensures) ∙ verdict_is c.args.parameters well.0.homing.valid _ _;
       files = refl;
       pools = cleared-is _ _ _ _ _ _ _ _ _ c.clear.ensures.pool_after c.clear.ensures.waiting_after c.clear.ensures.poolowners_after
-          done.auto.poolnumbers done.auto.poolwords done.auto.poolowners;
+          done.auto.pool done.auto.waiting done.auto.poolowners;
     })

@@ -22,9 +22,9 @@ place_second-requires c =
     record {
       ready = c.requires.ready_2;
       numbers_len_bound = λ h. (
-            carried-few c.args.old c.args.new (lent c.args.separators.now c.args.numbers.now c.args.words.now c.args.owners.now) (lent c.args.secondseparators.now c.args.secondnumbers.now c.args.secondwords.now c.args.secondowners.now) _ c.lowest_unsound-bad.ensures c.requires.ready.homing.valid c.requires.ready.sized h,
-            carried-numbers c.args.old c.args.new (lent c.args.separators.now c.args.numbers.now c.args.words.now c.args.owners.now) (lent c.args.secondseparators.now c.args.secondnumbers.now c.args.secondwords.now c.args.secondowners.now) _ c.lowest_unsound-bad.ensures c.requires.ready.homing.valid c.requires.ready.sized h,
-          );
+        carried-few c.args.old c.args.new (lent c.args.separators.now c.args.numbers.now c.args.words.now c.args.owners.now) (lent c.args.secondseparators.now c.args.secondnumbers.now c.args.secondwords.now c.args.secondowners.now) _ c.lowest_unsound-bad.ensures c.requires.ready.homing.valid c.requires.ready.sized h,
+        carried-numbers c.args.old c.args.new (lent c.args.separators.now c.args.numbers.now c.args.words.now c.args.owners.now) (lent c.args.secondseparators.now c.args.secondnumbers.now c.args.secondwords.now c.args.secondowners.now) _ c.lowest_unsound-bad.ensures c.requires.ready.homing.valid c.requires.ready.sized h,
+      );
       pool_len = c.requires.pool_len;
       waiting_len = c.requires.waiting_len;
     }

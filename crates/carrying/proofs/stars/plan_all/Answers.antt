@@ -17,7 +17,7 @@ returns-then-pool-count_stars c =
       fits = sym (ne_eqb _ 0 (words-crowded c.args.geometry c.requires.parameters_value.0 c.requires.parameters_value.1 c.args.numbers.now c.requires.numbers_len_bound.0 c.requires.numbers_len_bound.1
           (omega (arith, c.if-pool-count_stars.true, counted, c.requires.pool_len))));
       sources = λ e. absurd (false≢true e);
-      separators-are = λ e. absurd (false≢true e);
+      separators_are = λ e. absurd (false≢true e);
     }
 
 pub first_multipliers-table-requires : goal.first_multipliers-table-requires

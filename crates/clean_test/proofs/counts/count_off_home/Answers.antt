@@ -85,7 +85,7 @@ pub overflow_cast-home : goal.overflow_cast-home
 overflow_cast-home c =
     let k = c.before.before.before.before in
     let a = (start k).args in
-    omega (arith, c.shared_slice_known-in-loop-i-2-1.given (a.page * a.geometry.parameters.places + k.loop-i.i))
+    omega (arith, c.type_inv.homes (a.page * a.geometry.parameters.places + k.loop-i.i))
 
 pub overflow_add-i : goal.overflow_add-i
 overflow_add-i c = omega arith

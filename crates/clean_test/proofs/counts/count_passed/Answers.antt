@@ -91,7 +91,7 @@ pub bounds-separators-probed : goal.bounds-separators-probed
 bounds-separators-probed c = omega arith
 
 pub overflow_cast-separators : goal.overflow_cast-separators
-overflow_cast-separators c = omega (arith, c.shared_slice_known-in-loop-next-2-1.given c.loop-next.next)
+overflow_cast-separators c = omega (arith, c.type_inv.separators c.loop-next.next)
 
 pub offset_bounds-counts-probed : goal.offset_bounds-counts-probed
 offset_bounds-counts-probed c = omega arith

@@ -6,11 +6,10 @@ use Rattle.clean_test.proofs.counts.first_raisable_beyond.Goals as goal
 
 pub first_raisable_by_16807-requires : goal.first_raisable_by_16807-requires
 first_raisable_by_16807-requires c =
-    let k = c.before.before in
-    let p = k.requires in
+    let p = c.requires in
     record {
-      parameters_value = (((p.parameters_value, the_other _ (limits _ p.parameters_value).multiplier_valid k.if-geometry-eq48271.false), p.1)).0;
-      homed = (((p.parameters_value, the_other _ (limits _ p.parameters_value).multiplier_valid k.if-geometry-eq48271.false), p.1)).1.0;
-      from_le_start = (((p.parameters_value, the_other _ (limits _ p.parameters_value).multiplier_valid k.if-geometry-eq48271.false), p.1)).1.1.0;
-      passers_counted = (((p.parameters_value, the_other _ (limits _ p.parameters_value).multiplier_valid k.if-geometry-eq48271.false), p.1)).1.1.1;
+      parameters_value = (p.parameters_value, the_other _ (limits _ p.parameters_value).multiplier_valid c.if-geometry-eq48271.false);
+      homed = p.homed;
+      from_le_start = p.from_le_start;
+      passers_counted = p.passers_counted;
     }

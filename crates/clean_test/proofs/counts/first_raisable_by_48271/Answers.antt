@@ -35,10 +35,10 @@ pub count_pages-end-requires : goal.count_pages-end-requires
 count_pages-end-requires c =
     let s = start c.before.before.before in
     record {
-      signers = ((whole-signers (tabled c.before.before.before) s.requires.parameters_value.0, s.requires.1)).0;
-      homed = ((whole-signers (tabled c.before.before.before) s.requires.parameters_value.0, s.requires.1)).1.0;
-      from_le_start = ((whole-signers (tabled c.before.before.before) s.requires.parameters_value.0, s.requires.1)).1.1.0;
-      passers_counted = ((whole-signers (tabled c.before.before.before) s.requires.parameters_value.0, s.requires.1)).1.1.1;
+      signers = whole-signers (tabled c.before.before.before) s.requires.parameters_value.0;
+      homed = s.requires.homed;
+      from_le_start = s.requires.from_le_start;
+      passers_counted = s.requires.passers_counted;
     }
 
 -- all pages are counted

@@ -18,17 +18,8 @@ use Rattle.entry_reach.proofs.blocks.plan_block.Reads as reads
 use Rattle.entry_reach.proofs.blocks.plan_block.Goals as goal
 use Rattle.entry_reach.proofs.blocks.plan_block.Goals.{Start}
 
-abbrev After-survey_pages-unsound : Type 0
-After-survey_pages-unsound = lts.After-survey_pages tie.the-claims reads.Pre reads.Post tie.handed_clauses
-
 abbrev Else-unsound-stop : Type 0
 Else-unsound-stop = lts.Else1 tie.the-claims reads.Pre reads.Post tie.handed_clauses
-
-abbrev After-plan-left : Type 0
-After-plan-left = lts.After-plan tie.the-claims reads.Pre reads.Post tie.handed_clauses
-
-abbrev After-slice_known-7-1 : Type 0
-After-slice_known-7-1 = lts.After-slice_known7 tie.the-claims reads.Pre reads.Post tie.handed_clauses
 
 -- the parameters' limits, at entry
 bounds : (s : Start) → Limits s.args.geometry.parameters
@@ -114,7 +105,7 @@ clear c =
     s.args.block.last (extent s).ends c.survey_pages-unsound.result (told c) c.if-unsound-stop.false
 
 -- the pool holds the block's homes
-homes : (c : Else-unsound-stop) → c.survey_pages-unsound.new.1.1.1.1.1.1.0
+homes : (c : Else-unsound-stop) → c.survey_pages-unsound.new.homes
     ≡ paste (from c).args.pool.now ((from c).args.block.first * (from c).args.geometry.parameters.places)
     (homes_of (from c).args.geometry.parameters (from c).args.geometry.growth (drop ((from c).args.block.first * (from c).args.geometry.parameters.places) (from c).args.numbers.now))
     (((from c).args.block.last + 1 - (from c).args.block.first) * (from c).args.geometry.parameters.places)
@@ -154,9 +145,9 @@ plan-left-requires c =
     let fits : (s.args.block.first + (s.args.block.last + 1 - s.args.block.first)) * s.args.geometry.parameters.places ≤ s.args.geometry.parameters.pages * s.args.geometry.parameters.places = rw sum (items s) in record {
       parameters_value = s.requires.ready.homing.valid;
       count_nonzero = (omega (arith, low s), (omega (arith, sum, high s, (bounds s).pages_most), omega (arith, sum, high s, s.requires.pages_in_bounds)));
-      places_in_bounds = (omega (arith, fits, s.requires.ready.sized.of_numbers), omega (arith, fits, y.auto.1.1.1.1.1.1.0, s.requires.pool_len.0));
+      places_in_bounds = (omega (arith, fits, s.requires.ready.sized.of_numbers), omega (arith, fits, y.auto.homes, s.requires.pool_len.0));
       numbers_value = found-numbers s.args.geometry.parameters s.args.geometry.growth (file s) s.requires.ready.homing.valid s.requires.ready.sized s.args.block.first (extent s).inside s.args.block.last (extent s).ends (clear d);
-      pool_value = found_below s.args.geometry.parameters s.args.geometry.growth (file s) s.requires.ready.homing.valid s.requires.ready.sized s.args.block.first (extent s).inside s.args.block.last (extent s).ends (clear d) s.args.pool.now y.new.1.1.1.1.1.1.0 s.requires.pool_len.0 (homes d);
+      pool_value = found_below s.args.geometry.parameters s.args.geometry.growth (file s) s.requires.ready.homing.valid s.requires.ready.sized s.args.block.first (extent s).inside s.args.block.last (extent s).ends (clear d) s.args.pool.now y.new.homes s.requires.pool_len.0 (homes d);
       numbers_in_bounds = (
         omega (arith, c.if-waiting-incoming.false, c.count_stars.ensures, s.requires.incoming_in_bounds.0, found-count s.args.geometry.parameters s.args.geometry.growth (file s) s.requires.ready.homing.valid s.requires.ready.sized s.args.block.first (extent s).inside s.args.block.last (extent s).ends (clear d)),
         omega (arith, few s, s.requires.pool_len.1),
@@ -164,18 +155,12 @@ plan-left-requires c =
       waiting_value = s.requires.incoming_in_bounds.1;
     }
 
-abbrev after-plan : After-slice_known-7-1 → After-plan-left
-after-plan c = c.before.before.before.before.before.before
-
-abbrev after-survey_pages : After-plan-left → After-survey_pages-unsound
-after-survey_pages c = c.before.before.before.before.before.before.before.before.before
-
 pub returns : goal.returns
 returns c =
     let d = c.before.before.before.before.before.before.before.before.before.before.before.before.before in
     let s = from d in
     let y = c.survey_pages-unsound in
     block-planned s.args.geometry.parameters s.args.geometry.growth (file s) s.requires.ready.homing.valid s.requires.ready.sized s.args.block.first (extent s).inside
-    s.args.block.last (extent s).ends (clear d) s.args.pool.now y.new.1.1.1.1.1.1.0 s.requires.pool_len.0 (homes d)
-    (take s.args.incoming s.args.waiting.now) s.args.planned.now c.plan-left.new.1.1.0 c.plan-left.new.1.1.1.1.0 c.plan-left.new.1.1.1.0 c.plan-left.result
+    s.args.block.last (extent s).ends (clear d) s.args.pool.now y.new.homes s.requires.pool_len.0 (homes d)
+    (take s.args.incoming s.args.waiting.now) s.args.planned.now c.plan-left.new.pool c.plan-left.new.planned c.plan-left.new.waiting c.plan-left.result
     c.plan-left.ensures

@@ -69,14 +69,14 @@ told x b e =
     (head x).loop-page.pool (pool' x) (head x).loop-page.planned (planned' x) (waiting' x) b) e x.plan_block.ensures
 
 pool-long : (x : Place) → length (head x).loop-page.pool ≡ (start x).args.geometry.parameters.pages * (start x).args.geometry.parameters.places
-pool-long x = (head x).loop-page.inv.0 ∙ (start x).requires.pool_len.0
+pool-long x = (head x).loop-page.invariant.0 ∙ (start x).requires.pool_len.0
 
 planned-long : (x : Place) → (start x).args.geometry.parameters.pages ≤ length (head x).loop-page.planned
-planned-long x = omega (arith, (head x).loop-page.inv.1.1.0, (start x).requires.pages_in_bounds)
+planned-long x = omega (arith, (head x).loop-page.invariant.1.1.0, (start x).requires.pages_in_bounds)
 
 -- its pages
 extent : (x : Place) → Extends (start x).args.geometry.parameters (start x).args.geometry.growth (file (start x)) (head x).loop-page.pool (head x).loop-page.block
-extent x = (head x).loop-page.inv.1.1.1.1.1.0
+extent x = (head x).loop-page.invariant.1.1.1.1.1.0
 
 ended : (x : Place) → (head x).loop-page.block.last < (start x).args.geometry.parameters.pages
 ended x =
@@ -97,37 +97,37 @@ module _ (x : Place) (k page : ℕ) (number : valid_number k ≡ true) (unheld :
   s = start x
 
   reached : Reached s.args.geometry.parameters s.args.geometry.growth (file s) k page (head x).loop-page.block.first (head x).loop-page.pool (head x).loop-page.planned (take (head x).loop-page.carried (head x).loop-page.waiting)
-  reached = (head x).loop-page.inv.1.1.1.1.1.1 k page number unheld first
+  reached = (head x).loop-page.invariant.1.1.1.1.1.1 k page number unheld first
 
-  unsound-here : (bad : ℕ) → x.plan-block.result ≡ block·Unsound bad → (word owner : ℕ) → Unsound bad ≡ reach_answer s.args.geometry.parameters s.args.geometry.growth (file s) (new_star_lem k word owner)
+  unsound-here : (bad : ℕ) → x.plan_block.result ≡ block·Unsound bad → (word owner : ℕ) → Unsound bad ≡ reach_answer s.args.geometry.parameters s.args.geometry.growth (file s) (new_star_lem k word owner)
   unsound-here bad e =
-      reached-unsound s.args.geometry.parameters s.args.geometry.growth (file s) k s.pre.0.homing.valid s.pre.0.sized number unheld page (head x).loop-page.block.first (head x).loop-page.pool (head x).loop-page.planned
+      reached-unsound s.args.geometry.parameters s.args.geometry.growth (file s) k s.requires.ready.homing.valid s.requires.ready.sized number unheld page (head x).loop-page.block.first (head x).loop-page.pool (head x).loop-page.planned
       (take (head x).loop-page.carried (head x).loop-page.waiting) reached bad (told x (block·Unsound bad) e)
 
-  crowded-here : x.plan-block.result ≡ Crowded → (word owner : ℕ) → Overflows ≡ reach_answer s.args.geometry.parameters s.args.geometry.growth (file s) (new_star_lem k word owner)
+  crowded-here : x.plan_block.result ≡ Crowded → (word owner : ℕ) → Overflows ≡ reach_answer s.args.geometry.parameters s.args.geometry.growth (file s) (new_star_lem k word owner)
   crowded-here e =
-      reached-crowded s.args.geometry.parameters s.args.geometry.growth (file s) k s.pre.0.homing.valid s.pre.0.sized number unheld page (head x).loop-page.block.first (head x).loop-page.pool (head x).loop-page.planned
+      reached-crowded s.args.geometry.parameters s.args.geometry.growth (file s) k s.requires.ready.homing.valid s.requires.ready.sized number unheld page (head x).loop-page.block.first (head x).loop-page.pool (head x).loop-page.planned
       (take (head x).loop-page.carried (head x).loop-page.waiting) reached (told x Crowded e)
 
-  module _ (left : ℕ) (e : x.plan-block.result ≡ block·Planned left) where
+  module _ (left : ℕ) (e : x.plan_block.result ≡ block·Planned left) where
     ends-here : left ≡ 0 → (word owner : ℕ) → Ends (head x).loop-page.block.last ≡ reach_answer s.args.geometry.parameters s.args.geometry.growth (file s) (new_star_lem k word owner)
     ends-here =
-        block-ends s.args.geometry.parameters s.args.geometry.growth (file s) k s.pre.0.homing.valid s.pre.0.sized number unheld page (head x).loop-page.block.first (head x).loop-page.pool (head x).loop-page.planned
+        block-ends s.args.geometry.parameters s.args.geometry.growth (file s) k s.requires.ready.homing.valid s.requires.ready.sized number unheld page (head x).loop-page.block.first (head x).loop-page.pool (head x).loop-page.planned
         (take (head x).loop-page.carried (head x).loop-page.waiting) reached (pool' x) (planned' x) (waiting' x) left (pool-long x) (planned-long x) (told x (block·Planned left) e) (head x).loop-page.block.last (extent x).ends
 
     applies-here : left ≡ 0 → AppliesFrom s.args.geometry.parameters s.args.geometry.growth (file s) k page (pool' x) (planned' x) (Ends (head x).loop-page.block.last)
     applies-here =
-        block-applies s.args.geometry.parameters s.args.geometry.growth (file s) k s.pre.0.homing.valid s.pre.0.sized number unheld page (head x).loop-page.block.first (head x).loop-page.pool (head x).loop-page.planned
+        block-applies s.args.geometry.parameters s.args.geometry.growth (file s) k s.requires.ready.homing.valid s.requires.ready.sized number unheld page (head x).loop-page.block.first (head x).loop-page.pool (head x).loop-page.planned
         (take (head x).loop-page.carried (head x).loop-page.waiting) reached (pool' x) (planned' x) (waiting' x) left (pool-long x) (planned-long x) (told x (block·Planned left) e) (head x).loop-page.block.last (extent x).ends
 
     overflows-here : (left ≡ 0 → ⊥) → suc (head x).loop-page.block.last ≡ s.args.geometry.parameters.pages → (word owner : ℕ) → Overflows ≡ reach_answer s.args.geometry.parameters s.args.geometry.growth (file s) (new_star_lem k word owner)
     overflows-here =
-        block-overflows s.args.geometry.parameters s.args.geometry.growth (file s) k s.pre.0.homing.valid s.pre.0.sized number unheld page (head x).loop-page.block.first (head x).loop-page.pool (head x).loop-page.planned
+        block-overflows s.args.geometry.parameters s.args.geometry.growth (file s) k s.requires.ready.homing.valid s.requires.ready.sized number unheld page (head x).loop-page.block.first (head x).loop-page.pool (head x).loop-page.planned
         (take (head x).loop-page.carried (head x).loop-page.waiting) reached (pool' x) (planned' x) (waiting' x) left (pool-long x) (planned-long x) (told x (block·Planned left) e) (head x).loop-page.block.last (extent x).ends
 
     goes_on : (left ≡ 0 → ⊥) → suc (head x).loop-page.block.last < s.args.geometry.parameters.pages → Reached s.args.geometry.parameters s.args.geometry.growth (file s) k page (suc (head x).loop-page.block.last) (pool' x) (planned' x) (take left (waiting' x))
     goes_on =
-        block-next s.args.geometry.parameters s.args.geometry.growth (file s) k s.pre.0.homing.valid s.pre.0.sized number unheld page (head x).loop-page.block.first (head x).loop-page.pool (head x).loop-page.planned
+        block-next s.args.geometry.parameters s.args.geometry.growth (file s) k s.requires.ready.homing.valid s.requires.ready.sized number unheld page (head x).loop-page.block.first (head x).loop-page.pool (head x).loop-page.planned
         (take (head x).loop-page.carried (head x).loop-page.waiting) reached (pool' x) (planned' x) (waiting' x) left (pool-long x) (planned-long x) (told x (block·Planned left) e) (head x).loop-page.block.last (extent x).ends
 
 pub loop-page-init : goal.loop-page-init
@@ -151,20 +151,20 @@ pub returns-in-Unsound : goal.returns-in-Unsound
 returns-in-Unsound c =
     λ k page number unheld first.
     let x = c.before.before.before.before.before.before.before.before.before.before in
-    let v = c.page-1.given in
-    (unsound-here x k page number unheld first v.0.0 v.1, λ word owner last e. absurd (unsound-ends v.0.0 last e))
+    let w = c.in-Unsound in
+    (unsound-here x k page number unheld first w.page w.is, λ word owner last e. absurd (unsound-ends w.page last e))
 
 pub returns-in-Crowded : goal.returns-in-Crowded
 returns-in-Crowded c =
     λ k page number unheld first.
-    (crowded-here c.before.before.before.before.before.before.before.before k page number unheld first c.enum_told-1.given.1, λ word owner last e. absurd (overflows_ends last e))
+    (crowded-here c.before.before.before.before.before.before.before.before k page number unheld first c.in-Crowded.is, λ word owner last e. absurd (overflows_ends last e))
 
 pub returns-then-left-eq0 : goal.returns-then-left-eq0
 returns-then-left-eq0 c =
     λ k page number unheld first.
     let x = c.before.before.before.before.before.before.before.before.before.before.before in
-    let v = c.left-1.given in
-    (ends-here x k page number unheld first v.0.0 v.1 c.if-left-eq0.true, applies-here x k page number unheld first v.0.0 v.1 c.if-left-eq0.true)
+    let w = c.in-Planned in
+    (ends-here x k page number unheld first w.left w.is c.if-left-eq0.true, applies-here x k page number unheld first w.left w.is c.if-left-eq0.true)
 
 pub overflow_add-next : goal.overflow_add-next
 overflow_add-next c =
@@ -175,8 +175,8 @@ pub returns-then-next-pages : goal.returns-then-next-pages
 returns-then-next-pages c =
     λ k page number unheld first.
     let x = c.before.before.before.before.before.before.before.before.before.before.before.before.before in
-    let v = c.left-1.given in
-    (overflows-here x k page number unheld first v.0.0 v.1 c.if-left-eq0.false (omega (arith, c.if-next-pages.true)), λ word owner last e. absurd (overflows_ends last e))
+    let w = c.in-Planned in
+    (overflows-here x k page number unheld first w.left w.is c.if-left-eq0.false (omega (arith, c.if-next-pages.true)), λ word owner last e. absurd (overflows_ends last e))
 
 pub block_from-block-requires : goal.block_from-block-requires
 block_from-block-requires c =
@@ -199,8 +199,8 @@ loop-page-preserved c =
     let x = c.before.before.before.before.before.before.before.before.before.before.before.before.before.before.before in
     let s = start x in
     let p = s.args.geometry.parameters in
-    let v = c.left-1.given in
-    let plan = (told x (block·Planned v.0.0) v.1).plan in
+    let w = c.in-Planned in
+    let plan = (told x (block·Planned w.left) w.is).plan in
     let begun : c.block_from-block.result.first ≡ (head x).loop-page.block.last + 1 = ap (λ (e : Extent). e.first) c.block_from-block.ensures in
     let next : (head x).loop-page.block.last + 1 ≡ (head x).loop-page.block.first + block_count s.args.geometry.parameters s.args.geometry.growth (file s) (head x).loop-page.block.first =
     omega (arith, (extent x).ends, block-sum s.args.geometry.parameters s.args.geometry.growth (file s) (head x).loop-page.block.first (extent x).inside) in (
@@ -218,7 +218,7 @@ loop-page-preserved c =
                     (known-none s.args.geometry.parameters s.args.geometry.growth (file s) _ _ (le_refl _)) c.block_from-block.result c.block_from-block.ensures,
                 λ k page number unheld first.
                     rw (begun, add-one (head x).loop-page.block.last)
-                    (goes_on x k page number unheld first v.0.0 v.1 c.if-left-eq0.false (omega (arith, inside x c.if-next-pages.false))),
+                    (goes_on x k page number unheld first w.left w.is c.if-left-eq0.false (omega (arith, inside x c.if-next-pages.false))),
               ),
             ),
           ),

@@ -24,26 +24,8 @@ use Rattle.entry_reach.proofs.newcomers.decide_clean.Reads as reads
 use Rattle.entry_reach.proofs.newcomers.decide_clean.Goals as goal
 use Rattle.entry_reach.proofs.newcomers.decide_clean.Goals.{Start}
 
-abbrev After-decide_stretch : Type 0
-After-decide_stretch = lts.After-decide_stretch tie.the-claims reads.Pre reads.Post tie.handed_clauses
-
-abbrev After-slice_known-then-stop-star-3-1 : Type 0
-After-slice_known-then-stop-star-3-1 = lts.After-slice_known6 tie.the-claims reads.Pre reads.Post tie.handed_clauses
-
 abbrev After-push_within : Type 0
 After-push_within = lts.After-push_within tie.the-claims reads.Pre reads.Post tie.handed_clauses
-
-abbrev After-decide_onward : Type 0
-After-decide_onward = lts.After-decide_onward tie.the-claims reads.Pre reads.Post tie.handed_clauses
-
-abbrev After-slice_known-in-Leaves-3-1 : Type 0
-After-slice_known-in-Leaves-3-1 = lts.After-slice_known12 tie.the-claims reads.Pre reads.Post tie.handed_clauses
-
-abbrev After-name_page-page : Type 0
-After-name_page-page = lts.After-name_page tie.the-claims reads.Pre reads.Post tie.handed_clauses
-
-abbrev After-struct_known-in-Ends-1 : Type 0
-After-struct_known-in-Ends-1 = lts.After-struct_known5 tie.the-claims reads.Pre reads.Post tie.handed_clauses
 
 abbrev file : Start → File
 file s = lent s.args.separators.now s.args.numbers.now s.args.words.now s.args.owners.now
@@ -86,12 +68,12 @@ start x = x.before.before.before.before.before.before.before.before.before.befor
 
 told : (x : Place) (b : Pushing) → x.push_within.result ≡ b
     → PushesTo (start x).args.geometry.parameters (start x).args.geometry.growth (file (start x)) (start x).args.star.number (start x).args.star.page (start x).args.last
-    x.push_within.new.1.1.1.1.1.1.0 x.push_within.new.1.1.1.1.1.1.1.1.0 x.push_within.new.1.1.1.1.1.1.1.0 b
+    x.push_within.new.pool x.push_within.new.planned x.push_within.new.waiting b
 told x b e =
     subst (PushesTo (start x).args.geometry.parameters (start x).args.geometry.growth (file (start x)) (start x).args.star.number (start x).args.star.page (start x).args.last
-    x.push_within.new.1.1.1.1.1.1.0 x.push_within.new.1.1.1.1.1.1.1.1.0 x.push_within.new.1.1.1.1.1.1.1.0) e x.push_within.ensures
+    x.push_within.new.pool x.push_within.new.planned x.push_within.new.waiting) e x.push_within.ensures
 
-planned-long : (x : Place) → (start x).args.geometry.parameters.pages ≤ length x.push_within.new.1.1.1.1.1.1.1.1.0
+planned-long : (x : Place) → (start x).args.geometry.parameters.pages ≤ length x.push_within.new.planned
 planned-long x = omega (arith, x.push_within.auto.planned, (start x).requires.pages_in_bounds)
 
 pub has_room-requires : goal.has_room-requires
@@ -131,9 +113,6 @@ decide_stretch-requires c =
       );
     }
 
-abbrev after-decide_stretch : After-slice_known-then-stop-star-3-1 → After-decide_stretch
-after-decide_stretch c = c.before.before.before.before.before.before
-
 pub push_within-requires : goal.push_within-requires
 push_within-requires c =
     let s = c.before.before.before.before.before.before.before.before.before.before.before.before.before.before.before.before.before in record {
@@ -149,24 +128,24 @@ decide_onward-requires c =
     let x = c.before.before.before.before.before.before.before.before.before.before.before.before.before in
     let s = start x in
     let e = s.requires.enters in
-    let v = c.carried-1.given in
-    let n = v.0.0 in
-    let done = told x (Leaves n) v.1 in record {
+    let w = c.in-Leaves in
+    let n = w.carried in
+    let done = told x (Leaves n) w.is in record {
       enters = e;
       pool_len = (x.push_within.auto.pool ∙ s.requires.pool_len.0, x.push_within.auto.waiting ∙ s.requires.pool_len.1);
       pages_in_bounds = planned-long x;
       carried_in_bounds = done.1.0;
       leaves_run = pushed-leaves s.args.geometry.parameters s.args.geometry.growth (file s) s.args.star.number s.args.star.page e.ready.homing.valid e.ready.sized e.number e.unheld e.here s.args.last (run s).ends (sound s) (run s).ruled
-          x.push_within.new.1.1.1.1.1.1.0 x.push_within.new.1.1.1.1.1.1.1.1.0 (take n x.push_within.new.1.1.1.1.1.1.1.0) done.1.1
-          (omega (arith, done.0, length-take-le n x.push_within.new.1.1.1.1.1.1.1.0 done.1.0));
+          x.push_within.new.pool x.push_within.new.planned (take n x.push_within.new.waiting) done.1.1
+          (omega (arith, done.0, length-take-le n x.push_within.new.waiting done.1.0));
     }
 
 pub name_page-page-requires : goal.name_page-page-requires
 name_page-page-requires c =
     let x = c.before.before.before.before.before.before.before.before.before.before.before in
     let s = start x in
-    let v = c.end-1.given in
-    let done = told x (Ends v.0.0) v.1 in
+    let w = c.in-Ends in
+    let done = told x (Ends w.end) w.is in
     record {
       homing = s.requires.enters.ready.homing;
       separators_len = (s.requires.enters.ready.sized.of_separators, planned-long x);
@@ -177,26 +156,14 @@ name_page-page-requires c =
 pub overflow_add-count : goal.overflow_add-count
 overflow_add-count c =
     let x = c.before.before.before.before.before.before.before.before.before.before.before.before.before.before in
-    let v = c.end-1.given in
-    omega (arith, (told x (Ends v.0.0) v.1).1.0, high (start x), (bounds (start x)).pages_most)
+    let w = c.in-Ends in
+    omega (arith, (told x (Ends w.end) w.is).1.0, high (start x), (bounds (start x)).pages_most)
 
 pub overflow_sub-count : goal.overflow_sub-count
 overflow_sub-count c =
     let x = c.before.before.before.before.before.before.before.before.before.before.before.before.before.before.before in
-    let v = c.end-1.given in
-    omega (arith, (told x (Ends v.0.0) v.1).0)
-
-abbrev after-decide_onward : After-slice_known-in-Leaves-3-1 → After-decide_onward
-after-decide_onward c = c.before.before.before.before.before.before
-
-abbrev after-push_within : After-decide_onward → After-push_within
-after-push_within c = c.before.before.before.before.before.before.before.before.before.before.before.before.before
-
-abbrev after-push_within-2 : After-struct_known-in-Ends-1 → After-push_within
-after-push_within-2 c = c.before.before.before.before.before.before.before.before.before.before.before.before.before.before
-
-abbrev after-push_within-3 : After-name_page-page → After-push_within
-after-push_within-3 c = c.before.before.before.before.before.before.before.before.before.before.before
+    let w = c.in-Ends in
+    omega (arith, (told x (Ends w.end) w.is).0)
 
 pub returns-in-Ends : goal.returns-in-Ends
 returns-in-Ends c =
@@ -204,8 +171,8 @@ returns-in-Ends c =
     let n = c.name_page-page in
     let s = start x in
     let e = s.requires.enters in
-    let v = c.end-1.given in
-    let done = told x (Ends v.0.0) v.1 in
+    let w = c.in-Ends in
+    let done = told x (Ends w.end) w.is in
     pushed-decided s.args.geometry.parameters s.args.geometry.growth (file s) s.args.star.number s.args.star.page e.ready.homing.valid e.ready.sized e.number e.unheld e.here s.args.last (run s).ends (sound s) (run s).ruled
-    s.args.star.word s.args.star.owner x.push_within.new.1.1.1.1.1.1.0 x.push_within.new.1.1.1.1.1.1.1.1.0 v.0.0 done.0 done.1.0 (done.1.1 s.args.star.word s.args.star.owner)
-    n.new.1.1.1.0 n.result (omega (arith, planned-long x, n.auto.1.1.1.0)) n.ensures.1 n.ensures.0
+    s.args.star.word s.args.star.owner x.push_within.new.pool x.push_within.new.planned w.end done.0 done.1.0 (done.1.1 s.args.star.word s.args.star.owner)
+    n.new.planned n.result (omega (arith, planned-long x, n.auto.planned)) n.ensures.planned_unchanged n.ensures.value

@@ -26,7 +26,7 @@ returns c =
     let s = d.before.before.before.before.before.before in
     let l : List ℕ = stretch_words s.args.places s.args.page 1 0 s.args.numbers.now s.args.pool.now in record {
       value = d.gather.ensures.value;
-      waiting_after = ap (λ (n : ℕ). take n d.gather.new.1.1.0) d.gather.ensures.value
+      waiting_after = ap (λ (n : ℕ). take n d.gather.new.waiting) d.gather.ensures.value
           ∙ d.gather.ensures.scatters.words
           ∙ ap (λ (t : List ℕ). take s.args.end s.args.waiting.now ++ t) (one-group s.args.page l s.requires.pool_value_2);
     }

@@ -45,4 +45,4 @@ returns c =
     let s = c.before.before.before.before.before.before.before.before.before.before.before.before.before.before.before.before in
     let a = s.args in
     let d = c.settle_under-settled in
-    page-lowered a.parameters a.page a.most (slice a.from a.reach a.waiting.now) a.reach a.waiting.now d.new.1.1.1.0 d.new.1.1.1.1.1.1.1.0 a.pool.now c.store_sources.new.0 a.planned.now d.result d.ensures.0 c.store_sources.ensures s.requires.most_bound.1.0
+    page-lowered a.parameters a.page a.most (slice a.from a.reach a.waiting.now) a.reach a.waiting.now d.new.waiting d.new.slots a.pool.now c.store_sources.new.pool a.planned.now d.result d.ensures.settlement c.store_sources.ensures s.requires.most_bound.1.0

@@ -22,12 +22,6 @@ use Rattle.entry_reach.proofs.newcomers.push_page.Goals.{Start}
 abbrev After-join_page-reach : Type 0
 After-join_page-reach = lts.After-join_page tie.the-claims reads.Pre reads.Post tie.handed_clauses
 
-abbrev After-lower_page-on : Type 0
-After-lower_page-on = lts.After-lower_page tie.the-claims reads.Pre reads.Post tie.handed_clauses
-
-abbrev After-slice_known-7-1 : Type 0
-After-slice_known-7-1 = lts.After-slice_known7 tie.the-claims reads.Pre reads.Post tie.handed_clauses
-
 abbrev file : Start → File
 file s = lent s.args.separators.now s.args.numbers.now s.args.words.now s.args.owners.now
 
@@ -44,7 +38,7 @@ fits : (s : Start) → (s.args.page + 1) * s.args.geometry.parameters.places ≤
 fits s = mul-le-mul_right s.args.geometry.parameters.places (omega (arith, inside s))
 
 pub overflow_cast-stored : goal.overflow_cast-stored
-overflow_cast-stored c = omega (arith, c.shared_slice_known-5-1.given c.args.page)
+overflow_cast-stored c = omega (arith, c.type_inv.separators c.args.page)
 
 pub join_page-reach-requires : goal.join_page-reach-requires
 join_page-reach-requires c =
@@ -107,16 +101,10 @@ lower_page-on-requires c =
       probing = met-probing p s.args.geometry.growth (file s) s.requires.ready.homing.valid s.requires.ready.sized s.args.page (inside s) (k.sound (inside s)) s.args.from s.args.end x.join_page-reach.result s.args.waiting.now (come x)
           s.requires.from_le_end.0 (within s) (ends x) (words x) s.requires.from_le_end.1.1 (x.join_page-reach.auto.waiting ∙ s.requires.pool_len.1);
       most_bound = (
-        omega (arith, x.shared_slice_known-5-1.given s.args.page),
+        omega (arith, c.type_inv.separators s.args.page),
         (omega (arith, inside s, s.requires.pages_in_bounds.0), page-fits _ _ _ (inside s) s.requires.pool_len.0),
       );
     }
-
-abbrev after-lower-page : After-slice_known-7-1 → After-lower_page-on
-after-lower-page c = c.before.before.before.before.before.before
-
-abbrev after-join_page : After-lower_page-on → After-join_page-reach
-after-join_page c = c.before.before.before.before.before.before
 
 pub returns : goal.returns
 returns c =

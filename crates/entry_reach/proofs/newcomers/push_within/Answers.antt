@@ -66,19 +66,19 @@ abbrev begun : Head → Start
 begun h = h.before.before.before.before.before.before.before.before.before
 
 rolls : (h : Head) → Rolling (begun h).args.geometry.parameters (begun h).args.geometry.growth (file (begun h)) (begun h).args.star.number (begun h).args.star.page h.loop-at.pool h.loop-at.planned h.loop-at.waiting h.loop-at.at h.loop-at.from h.loop-at.end
-rolls h = h.loop-at.inv.1.1.1.1.1 (begun h).args.star.number (named (begun h) (packed h).pack.result (packed h).pack.ensures)
+rolls h = h.loop-at.invariant.1.1.1.1.1 (begun h).args.star.number (named (begun h) (packed h).pack.result (packed h).pack.ensures)
 
 pool-long : (h : Head) → length h.loop-at.pool ≡ (begun h).args.geometry.parameters.pages * (begun h).args.geometry.parameters.places
-pool-long h = h.loop-at.inv.0 ∙ (begun h).requires.pool_len.0
+pool-long h = h.loop-at.invariant.0 ∙ (begun h).requires.pool_len.0
 
 waiting-same : (h : Head) → length h.loop-at.waiting ≡ length (begun h).args.waiting.now
-waiting-same h = h.loop-at.inv.1.0 ∙ simp length-set
+waiting-same h = h.loop-at.invariant.1.0 ∙ simp length-set
 
 waiting-long : (h : Head) → length h.loop-at.waiting ≡ (begun h).args.geometry.parameters.pages * (begun h).args.geometry.parameters.places
 waiting-long h = waiting-same h ∙ (begun h).requires.pool_len.1
 
 planned-long : (h : Head) → (begun h).args.geometry.parameters.pages ≤ length h.loop-at.planned
-planned-long h = omega (arith, h.loop-at.inv.1.1.0, (begun h).requires.pages_in_bounds)
+planned-long h = omega (arith, h.loop-at.invariant.1.1.0, (begun h).requires.pages_in_bounds)
 
 -- the pages are not all
 some : (h : Head) → (begun h).args.last + 1 - (begun h).args.star.page < (begun h).args.geometry.parameters.pages
@@ -92,19 +92,19 @@ abbrev head : Place → Head
 head x = x.before.before.before.before.before
 
 inside : (x : Place) → (head x).loop-at.at < (begun (head x)).args.geometry.parameters.pages
-inside x = omega (arith, x.loop-at-test.taken, (begun (head x)).requires.1.1.1.0.1.0)
+inside x = omega (arith, x.loop-at-test.true, (begun (head x)).requires.page_le_last.1.0)
 
 within : (x : Place) → (head x).loop-at.at < (begun (head x)).args.last + 1
-within x = omega (arith, x.loop-at-test.taken)
+within x = omega (arith, x.loop-at-test.true)
 
 sound : (x : Place) → sound_at (begun (head x)).args.geometry.parameters (begun (head x)).args.geometry.growth (file (begun (head x))) (head x).loop-at.at ≡ true
-sound x = ((head x).loop-at.inv.1.1.1.1.0 (head x).loop-at.at (le_refl _) (within x)).sound (inside x)
+sound x = ((head x).loop-at.invariant.1.1.1.1.0 (head x).loop-at.at (le_refl _) (within x)).sound (inside x)
 
 few_words : (x : Place) → length (page_words (begun (head x)).args.geometry.parameters (begun (head x)).args.geometry.growth (file (begun (head x))) (head x).loop-at.at) ≤ (begun (head x)).args.geometry.parameters.places
 few_words x =
     let s = begun (head x) in
-    words-room s.args.geometry.parameters s.args.geometry.growth (file s) s.pre.0.ready.homing.valid s.pre.0.ready.sized (head x).loop-at.at (inside x) (sound x) (head x).loop-at.pool
-    (((head x).loop-at.inv.1.1.1.1.0 (head x).loop-at.at (le_refl _) (within x)).kept (inside x))
+    words-room s.args.geometry.parameters s.args.geometry.growth (file s) s.requires.enters.ready.homing.valid s.requires.enters.ready.sized (head x).loop-at.at (inside x) (sound x) (head x).loop-at.pool
+    (((head x).loop-at.invariant.1.1.1.1.0 (head x).loop-at.at (le_refl _) (within x)).kept (inside x))
 
 waiting_kept : (x : Place) → length x.push_page-next.last.1.1.1.1.1.1.1.0 ≡ length (begun (head x)).args.waiting.now
 waiting_kept x = x.push_page-next.kept.1.1.1.1.1.1.1.0 ∙ waiting-same (head x)
@@ -115,7 +115,7 @@ roomy h t =
     rolling_room s.args.geometry.parameters s.args.geometry.growth (file s) s.args.star.number s.args.star.page s.requires.enters.ready.homing.valid s.requires.enters.ready.sized s.requires.enters.number s.requires.enters.unheld s.requires.enters.here h.loop-at.pool h.loop-at.planned h.loop-at.waiting h.loop-at.at h.loop-at.from h.loop-at.end (rolls h) (s.args.last + 1) t (some h)
 
 come : (x : Place) → x.push_page-next.result.reach ≤ length x.push_page-next.last.1.1.1.1.1.1.1.0
-come x = omega (arith, x.push_page-next.ensures.ends, few_words x, roomy (head x) (within x), waiting_kept x, (begun (head x)).requires.1.0.1)
+come x = omega (arith, x.push_page-next.ensures.ends, few_words x, roomy (head x) (within x), waiting_kept x, (begun (head x)).requires.pool_len.1)
 
 pub pack-requires : goal.pack-requires
 pack-requires c =
@@ -185,8 +185,8 @@ returns-then-from-end c =
       (
         omega (arith, within x),
         λ word owner.
-            rolling_ends s.args.geometry.parameters s.args.geometry.growth (file s) s.args.star.number s.args.star.page s.pre.0.ready.homing.valid s.pre.0.ready.sized s.pre.0.number s.pre.0.unheld s.pre.0.here l.pool l.planned l.waiting l.at l.from l.end (rolls (head x)) (inside x) (sound x) (few_words x) (pool-long (head x)) (planned-long (head x))
-            x.push_page-next.new.1.1.1.1.1.1.0 x.push_page-next.new.1.1.1.1.1.1.1.1.0 x.push_page-next.new.1.1.1.1.1.1.1.0 x.push_page-next.result x.push_page-next.ensures (come x) c.if-from-end.true word owner,
+            rolling_ends s.args.geometry.parameters s.args.geometry.growth (file s) s.args.star.number s.args.star.page s.requires.enters.ready.homing.valid s.requires.enters.ready.sized s.requires.enters.number s.requires.enters.unheld s.requires.enters.here l.pool l.planned l.waiting l.at l.from l.end (rolls (head x)) (inside x) (sound x) (few_words x) (pool-long (head x)) (planned-long (head x))
+            x.push_page-next.new.pool x.push_page-next.new.planned x.push_page-next.new.waiting x.push_page-next.result x.push_page-next.ensures (come x) c.if-from-end.true word owner,
       ),
     )
 
@@ -203,23 +203,23 @@ loop-at-preserved c =
     let s = begun (head x) in
     let p = s.args.geometry.parameters in
     let g = s.args.geometry.growth in
-    let pool = x.push_page-next.new.1.1.1.1.1.1.0 in
-    let planned = x.push_page-next.new.1.1.1.1.1.1.1.1.0 in
-    let W = x.push_page-next.new.1.1.1.1.1.1.1.0 in (
-      x.push_page-next.auto.pool ∙ l.inv.0,
+    let pool = x.push_page-next.new.pool in
+    let planned = x.push_page-next.new.planned in
+    let W = x.push_page-next.new.waiting in (
+      x.push_page-next.auto.pool ∙ l.invariant.0,
       (
-        x.push_page-next.auto.waiting ∙ l.inv.1.0,
+        x.push_page-next.auto.waiting ∙ l.invariant.1.0,
         (
-          x.push_page-next.auto.planned ∙ l.inv.1.1.0,
+          x.push_page-next.auto.planned ∙ l.invariant.1.1.0,
           (
             omega (arith, within x),
             (
-              rolling_known p g (file s) s.args.star.number s.args.star.page s.pre.0.ready.homing.valid s.pre.0.ready.sized s.pre.0.number s.pre.0.unheld s.pre.0.here l.pool l.planned l.waiting l.at l.from l.end (rolls (head x)) (inside x) (sound x) (few_words x) (pool-long (head x)) (planned-long (head x)) pool planned W x.push_page-next.result x.push_page-next.ensures (come x)
-                  (s.args.last + 1) l.inv.1.1.1.1.0,
+              rolling_known p g (file s) s.args.star.number s.args.star.page s.requires.enters.ready.homing.valid s.requires.enters.ready.sized s.requires.enters.number s.requires.enters.unheld s.requires.enters.here l.pool l.planned l.waiting l.at l.from l.end (rolls (head x)) (inside x) (sound x) (few_words x) (pool-long (head x)) (planned-long (head x)) pool planned W x.push_page-next.result x.push_page-next.ensures (come x)
+                  (s.args.last + 1) l.invariant.1.1.1.1.0,
               λ k same.
                   subst (λ (k : ℕ). Rolling p g (file s) k s.args.star.page pool planned W (l.at + 1) x.push_page-next.result.from x.push_page-next.result.reach)
                   (named s (packed (head x)).pack.result (packed (head x)).pack.ensures ∙ sym same)
-                  (rolling_next p g (file s) s.args.star.number s.args.star.page s.pre.0.ready.homing.valid s.pre.0.ready.sized s.pre.0.number s.pre.0.unheld s.pre.0.here l.pool l.planned l.waiting l.at l.from l.end (rolls (head x)) (inside x) (sound x) (few_words x) (pool-long (head x)) (planned-long (head x)) pool planned W x.push_page-next.result x.push_page-next.ensures (come x) c.if-from-end.false),
+                  (rolling_next p g (file s) s.args.star.number s.args.star.page s.requires.enters.ready.homing.valid s.requires.enters.ready.sized s.requires.enters.number s.requires.enters.unheld s.requires.enters.here l.pool l.planned l.waiting l.at l.from l.end (rolls (head x)) (inside x) (sound x) (few_words x) (pool-long (head x)) (planned-long (head x)) pool planned W x.push_page-next.result x.push_page-next.ensures (come x) c.if-from-end.false),
             ),
           ),
         ),
@@ -245,12 +245,12 @@ returns c =
     let h = c.before.before.before.before.before.before in
     let l = h.loop-at in
     let s = begun h in
-    let count : m.result ≡ l.end - l.from = m.ensures.0 in
+    let count : m.result ≡ l.end - l.from = m.ensures.value in
     let there : l.at ≡ s.args.last + 1 = omega (arith, c.loop-at-test.false, l.invariant.1.1.1.0) in (
       omega (arith, count, (rolls h).some),
       (
-        omega (arith, count, (moved h).1, m.auto.0),
-        rw m.ensures.1
+        omega (arith, count, (moved h).1, m.auto.waiting),
+        rw m.ensures.waiting_after
             (rolling_leaves s.args.geometry.parameters s.args.geometry.growth (file s) s.args.star.number s.args.star.page s.requires.enters.ready.homing.valid s.requires.enters.ready.sized s.requires.enters.number s.requires.enters.unheld s.requires.enters.here
             l.pool l.planned l.waiting l.at l.from l.end (rolls h) s.args.last s.requires.page_le_last.0 there),
       ),

@@ -30,18 +30,6 @@ After-block_from-block = lts.After-block_from tie.the-claims reads.Pre reads.Pos
 abbrev After-plan_onward : Type 0
 After-plan_onward = lts.After-plan_onward tie.the-claims reads.Pre reads.Post tie.handed_clauses
 
-abbrev In-Unsound : Type 0
-In-Unsound = lts.After-known_told tie.the-claims reads.Pre reads.Post tie.handed_clauses
-
-abbrev In-Overflows : Type 0
-In-Overflows = lts.After-enum_told tie.the-claims reads.Pre reads.Post tie.handed_clauses
-
-abbrev After-name_page-page : Type 0
-After-name_page-page = lts.After-name_page tie.the-claims reads.Pre reads.Post tie.handed_clauses
-
-abbrev After-struct_known-in-Ends-1 : Type 0
-After-struct_known-in-Ends-1 = lts.After-struct_known2 tie.the-claims reads.Pre reads.Post tie.handed_clauses
-
 abbrev file : Start → File
 file s = lent s.args.separators.now s.args.numbers.now s.args.words.now s.args.owners.now
 
@@ -82,13 +70,13 @@ start x = begun (block x)
 
 told : (x : Place) → ((word owner : ℕ) → x.plan_onward.result ≡ reach_answer (start x).args.geometry.parameters (start x).args.geometry.growth (file (start x)) (new_star_lem (start x).args.star.number word owner))
     × AppliesFrom (start x).args.geometry.parameters (start x).args.geometry.growth (file (start x)) (start x).args.star.number (start x).args.star.page
-    x.plan_onward.new.1.1.1.1.1.1.0 x.plan_onward.new.1.1.1.1.1.1.1.1.0 x.plan_onward.result
+    x.plan_onward.new.pool x.plan_onward.new.planned x.plan_onward.result
 told x = let s = start x in x.plan_onward.ensures s.args.star.number s.args.star.page s.requires.enters.number s.requires.enters.unheld (reached (block x))
 
-planned-long : (x : Place) → (start x).args.geometry.parameters.pages ≤ length x.plan_onward.new.1.1.1.1.1.1.1.1.0
+planned-long : (x : Place) → (start x).args.geometry.parameters.pages ≤ length x.plan_onward.new.planned
 planned-long x = omega (arith, (start x).requires.pages_in_bounds, x.plan_onward.auto.planned)
 
-module _ (x : Place) (end : ℕ) (v : x.plan-onward.result ≡ Ends end) where
+module _ (x : Place) (end : ℕ) (v : x.plan_onward.result ≡ Ends end) where
   answer : Ends end ≡ reach_answer (start x).args.geometry.parameters (start x).args.geometry.growth (file (start x)) (new_star_lem (start x).args.star.number (start x).args.star.word (start x).args.star.owner)
   answer = sym v ∙ (told x).0 (start x).args.star.word (start x).args.star.owner
 
@@ -136,62 +124,50 @@ pub name_page-page-requires : goal.name_page-page-requires
 name_page-page-requires c =
     let x = c.before.before.before.before.before.before.before.before.before.before.before in
     let s = start x in
-    let v = c.end-1.given in
+    let w = c.in-Ends in
     record {
       homing = s.requires.enters.ready.homing;
       separators_len = (s.requires.enters.ready.sized.of_separators, planned-long x);
-      page_le_end = (low x v.0.0 v.1, high x v.0.0 v.1);
+      page_le_end = (low x w.end w.is, high x w.end w.is);
       home_value = s.requires.enters.homed;
     }
 
 pub overflow_add-count : goal.overflow_add-count
 overflow_add-count c =
     let x = c.before.before.before.before.before.before.before.before.before.before.before.before.before.before in
-    let v = c.end-1.given in
-    omega (arith, high x v.0.0 v.1, (bounds (start x)).pages_most)
+    let w = c.in-Ends in
+    omega (arith, high x w.end w.is, (bounds (start x)).pages_most)
 
 pub overflow_sub-count : goal.overflow_sub-count
 overflow_sub-count c =
     let x = c.before.before.before.before.before.before.before.before.before.before.before.before.before.before.before in
-    let v = c.end-1.given in
-    omega (arith, low x v.0.0 v.1)
-
-abbrev after-plan_onward : In-Unsound → After-plan_onward
-after-plan_onward c = c.before.before.before.before.before.before.before.before.before
+    let w = c.in-Ends in
+    omega (arith, low x w.end w.is)
 
 pub returns-in-Unsound : goal.returns-in-Unsound
 returns-in-Unsound c =
     let x = c.before.before.before.before.before.before.before.before.before.before in
     let s = start x in
-    let v = c.page-1.given in
-    let done = unsound-answer s.args.geometry.parameters s.args.geometry.growth (file s) s.args.star.number s.args.star.word s.args.star.owner v.0.0 (sym v.1 ∙ (told x).0 s.args.star.word s.args.star.owner) in
+    let w = c.in-Unsound in
+    let done = unsound-answer s.args.geometry.parameters s.args.geometry.growth (file s) s.args.star.number s.args.star.word s.args.star.owner w.page (sym w.is ∙ (told x).0 s.args.star.word s.args.star.owner) in
     record { answers = done.0; files = done.1; feasible = tt }
-
-abbrev after-plan_onward-2 : In-Overflows → After-plan_onward
-after-plan_onward-2 c = c.before.before.before.before.before.before.before.before
 
 pub returns-in-Overflows : goal.returns-in-Overflows
 returns-in-Overflows c =
     let x = c.before.before.before.before.before.before.before.before.before in
     let s = start x in
-    let done = overflows_answer s.args.geometry.parameters s.args.geometry.growth (file s) s.args.star.number s.args.star.word s.args.star.owner (sym c.enum_told-1.given.1 ∙ (told x).0 s.args.star.word s.args.star.owner) in
+    let done = overflows_answer s.args.geometry.parameters s.args.geometry.growth (file s) s.args.star.number s.args.star.word s.args.star.owner (sym c.in-Overflows.is ∙ (told x).0 s.args.star.word s.args.star.owner) in
     record { answers = done.0; files = done.1; feasible = tt }
-
-abbrev after-plan_onward-3 : After-struct_known-in-Ends-1 → After-plan_onward
-after-plan_onward-3 c = c.before.before.before.before.before.before.before.before.before.before.before.before.before.before
-
-abbrev after-plan_onward-4 : After-name_page-page → After-plan_onward
-after-plan_onward-4 c = c.before.before.before.before.before.before.before.before.before.before.before
 
 pub returns-in-Ends : goal.returns-in-Ends
 returns-in-Ends c =
     let x = c.before.before.before.before.before.before.before.before.before.before.before.before.before.before.before in
     let n = c.name_page-page in
     let s = start x in
-    let v = c.end-1.given in
-    let end = v.0.0 in
-    let count : end + 1 - s.args.star.page ≡ pages_to s.args.star.page end = omega (arith, low x end v.1) in
-    written-decided s.args.geometry.parameters s.args.geometry.growth (file s) s.args.star.number s.args.star.word s.args.star.owner end (answer x end v.1)
-    x.plan_onward.new.1.1.1.1.1.1.0 x.plan_onward.new.1.1.1.1.1.1.1.1.0 n.new.1.1.1.0 s.args.star.page end n.result
-    (omega (arith, home-inside s.args.geometry.parameters s.args.geometry.growth (file s) s.args.star.number s.requires.enters.ready.sized s.requires.enters.unheld, s.requires.enters.ready.sized.of_separators)) (low x end v.1) (high x end v.1)
-    (omega (arith, planned-long x, n.auto.1.1.1.0)) (rw count ((told x).1 s.args.star.word s.args.star.owner end v.1).1) n.ensures.1 n.ensures.0
+    let w = c.in-Ends in
+    let end = w.end in
+    let count : end + 1 - s.args.star.page ≡ pages_to s.args.star.page end = omega (arith, low x end w.is) in
+    written-decided s.args.geometry.parameters s.args.geometry.growth (file s) s.args.star.number s.args.star.word s.args.star.owner end (answer x end w.is)
+    x.plan_onward.new.pool x.plan_onward.new.planned n.new.planned s.args.star.page end n.result
+    (omega (arith, home-inside s.args.geometry.parameters s.args.geometry.growth (file s) s.args.star.number s.requires.enters.ready.sized s.requires.enters.unheld, s.requires.enters.ready.sized.of_separators)) (low x end w.is) (high x end w.is)
+    (omega (arith, planned-long x, n.auto.planned)) (rw count ((told x).1 s.args.star.word s.args.star.owner end w.is).1) n.ensures.planned_unchanged n.ensures.value

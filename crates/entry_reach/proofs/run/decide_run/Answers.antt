@@ -24,23 +24,8 @@ use Rattle.entry_reach.proofs.run.decide_run.Reads as reads
 use Rattle.entry_reach.proofs.run.decide_run.Goals as goal
 use Rattle.entry_reach.proofs.run.decide_run.Goals.{Start}
 
-abbrev After-survey_pages-unsound : Type 0
-After-survey_pages-unsound = lts.After-survey_pages tie.the-claims reads.Pre reads.Post tie.handed_clauses
-
 abbrev Else-unsound-stop : Type 0
 Else-unsound-stop = lts.Else1 tie.the-claims reads.Pre reads.Post tie.handed_clauses
-
-abbrev After-decide_stretch : Type 0
-After-decide_stretch = lts.After-decide_stretch tie.the-claims reads.Pre reads.Post tie.handed_clauses
-
-abbrev After-slice_known-then-first_raisable-stop-3-1 : Type 0
-After-slice_known-then-first_raisable-stop-3-1 = lts.After-slice_known7 tie.the-claims reads.Pre reads.Post tie.handed_clauses
-
-abbrev After-decide_clean : Type 0
-After-decide_clean = lts.After-decide_clean tie.the-claims reads.Pre reads.Post tie.handed_clauses
-
-abbrev After-slice_known-7-1 : Type 0
-After-slice_known-7-1 = lts.After-slice_known10 tie.the-claims reads.Pre reads.Post tie.handed_clauses
 
 abbrev file : Start → File
 file s = lent s.args.separators.now s.args.numbers.now s.args.words.now s.args.owners.now
@@ -72,7 +57,7 @@ abbrev begun : Else-unsound-stop → Start
 begun c = c.before.before.before.before.before.before.before.before.before.before.before.before.before
 
 abbrev surveyed : Else-unsound-stop → List ℕ
-surveyed c = c.survey_pages-unsound.new.1.1.1.1.1.1.0
+surveyed c = c.survey_pages-unsound.new.homes
 
 told : (c : Else-unsound-stop) → c.survey_pages-unsound.result ≡ first_unsound_lem (begun c).args.geometry.parameters (begun c).args.geometry.growth (file (begun c)) (begun c).args.star.home ((begun c).args.last + 1 - (begun c).args.star.home)
 told c = c.survey_pages-unsound.ensures.value
@@ -153,12 +138,6 @@ decide_stretch-requires c =
       );
     }
 
-abbrev after-decide_stretch : After-slice_known-then-first_raisable-stop-3-1 → After-decide_stretch
-after-decide_stretch c = c.before.before.before.before.before.before
-
-abbrev after-survey_pages : After-decide_stretch → After-survey_pages-unsound
-after-survey_pages c = c.before.before.before.before.before.before.before.before.before.before.before
-
 pub decide_clean-requires : goal.decide_clean-requires
 decide_clean-requires c =
     let e = c.before.before.before.before.before.before in
@@ -181,9 +160,3 @@ decide_clean-requires c =
             c.if-first_raisable-stop.false;
       };
     }
-
-abbrev after-decide_clean : After-slice_known-7-1 → After-decide_clean
-after-decide_clean c = c.before.before.before.before.before.before
-
-abbrev after-survey_pages-2 : After-decide_clean → After-survey_pages-unsound
-after-survey_pages-2 c = c.before.before.before.before.before.before.before.before.before

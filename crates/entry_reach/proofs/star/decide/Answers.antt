@@ -17,18 +17,6 @@ use Rattle.entry_reach.proofs.star.decide.Goals.{Start}
 abbrev After-block_from-first : Type 0
 After-block_from-first = lts.After-block_from tie.the-claims reads.Pre reads.Post tie.handed_clauses
 
-abbrev After-decide_run : Type 0
-After-decide_run = lts.After-decide_run tie.the-claims reads.Pre reads.Post tie.handed_clauses
-
-abbrev After-slice_known-then-last-from-ge8-3-1 : Type 0
-After-slice_known-then-last-from-ge8-3-1 = lts.After-slice_known6 tie.the-claims reads.Pre reads.Post tie.handed_clauses
-
-abbrev After-decide_stretch : Type 0
-After-decide_stretch = lts.After-decide_stretch tie.the-claims reads.Pre reads.Post tie.handed_clauses
-
-abbrev After-slice_known-6-1 : Type 0
-After-slice_known-6-1 = lts.After-slice_known9 tie.the-claims reads.Pre reads.Post tie.handed_clauses
-
 abbrev file : Start → File
 file s = lent s.args.separators.now s.args.numbers.now s.args.words.now s.args.owners.now
 
@@ -69,9 +57,6 @@ decide_run-requires c =
       last_value = ended c.before.before.before.before.before;
     }
 
-abbrev after-decide_run : After-slice_known-then-last-from-ge8-3-1 → After-decide_run
-after-decide_run c = c.before.before.before.before.before.before
-
 pub decide_stretch-requires : goal.decide_stretch-requires
 decide_stretch-requires c =
     let s = c.before.before.before.before.before.before.before.before.before.before.before.before.before.before.before in
@@ -84,6 +69,3 @@ decide_stretch-requires c =
       pages_in_bounds = s.requires.pages_in_bounds;
       home_value = (sym (ap (λ (e : Extent). e.first) k.block_from-first.ensures), x);
     }
-
-abbrev after-decide_stretch : After-slice_known-6-1 → After-decide_stretch
-after-decide_stretch c = c.before.before.before.before.before.before

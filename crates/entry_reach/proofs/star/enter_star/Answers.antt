@@ -25,15 +25,6 @@ use Rattle.entry_reach.proofs.star.enter_star.Goals.{After-carry_out, After-carr
 abbrev Then-takes_alone : Type 0
 Then-takes_alone = lts.Then1 tie.the-claims reads.Pre reads.Post tie.handed_clauses
 
-abbrev After-slice_known-then-takes_alone-7-1 : Type 0
-After-slice_known-then-takes_alone-7-1 = lts.After-slice_known14 tie.the-claims reads.Pre reads.Post tie.handed_clauses
-
-abbrev After-decide-decision : Type 0
-After-decide-decision = lts.After-decide tie.the-claims reads.Pre reads.Post tie.handed_clauses
-
-abbrev After-outcome_of : Type 0
-After-outcome_of = lts.After-outcome_of tie.the-claims reads.Pre reads.Post tie.handed_clauses
-
 abbrev file : Start → File
 file s = lent s.args.separators.now s.args.numbers.now s.args.words.now s.args.owners.now
 
@@ -86,9 +77,6 @@ carry_out-requires c =
       feasible = (decided d s.args.pool.now s.args.separators.now).feasible;
     }
 
-abbrev after-carry_out : After-slice_known-then-takes_alone-7-1 → After-carry_out
-after-carry_out c = c.before.before.before.before.before.before.before.before.before.before.before.before.before.before
-
 pub returns-then-takes_alone : goal.returns-then-takes_alone
 returns-then-takes_alone c =
     let d = c.before.before.before.before.before.before.before.before.before.before.before.before.before.before.before.before.before.before.before.before.before.before.before.before.before in
@@ -119,15 +107,9 @@ carry_out-requires-2 c =
     let planned = c.decide-decision in record {
       parameters_value = e.homing.valid;
       sized = e.sized;
-      pooled = record { of_numbers = planned.auto.1.1.1.1.1.1.0 ∙ pools.of_numbers; of_words_lem = planned.auto.1.1.1.1.1.1.1.0 ∙ pools.of_words_lem; of_owners = pools.of_owners };
+      pooled = record { of_numbers = planned.auto.pool ∙ pools.of_numbers; of_words_lem = planned.auto.waiting ∙ pools.of_words_lem; of_owners = pools.of_owners };
       feasible = planned.ensures.feasible;
     }
-
-abbrev after-carry_out2 : After-outcome_of → After-carry_out-2
-after-carry_out2 c = c.before.before.before.before.before.before.before.before.before.before.before.before.before.before.before
-
-abbrev after-decide : After-carry_out-2 → After-decide-decision
-after-decide c = c.before.before.before.before.before.before.before.before.before.before.before.before.before.before
 
 pub returns : goal.returns
 returns c =

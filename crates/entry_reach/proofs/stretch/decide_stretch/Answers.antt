@@ -20,15 +20,6 @@ use Rattle.entry_reach.proofs.stretch.decide_stretch.Goals.{Start}
 abbrev After-plan_entry : Type 0
 After-plan_entry = lts.After-plan_entry tie.the-claims reads.Pre reads.Post tie.handed_clauses
 
-abbrev In-Unsound : Type 0
-In-Unsound = lts.After-known_told tie.the-claims reads.Pre reads.Post tie.handed_clauses
-
-abbrev In-Overflows : Type 0
-In-Overflows = lts.After-enum_told tie.the-claims reads.Pre reads.Post tie.handed_clauses
-
-abbrev After-named_from-page : Type 0
-After-named_from-page = lts.After-named_from tie.the-claims reads.Pre reads.Post tie.handed_clauses
-
 abbrev file : Start → File
 file s = lent s.args.separators.now s.args.numbers.now s.args.words.now s.args.owners.now
 
@@ -42,12 +33,12 @@ home-is s = s.requires.enters.homed ∙ home-starts s.args.geometry.parameters s
 abbrev start : After-plan_entry → Start
 start c = c.before.before.before.before.before.before.before.before.before.before.before.before.before
 
-longer : (c : After-plan_entry) → (start c).args.geometry.parameters.pages ≤ length c.plan_entry.new.1.1.1.1.1.1.1.1.0
+longer : (c : After-plan_entry) → (start c).args.geometry.parameters.pages ≤ length c.plan_entry.new.planned
 longer c = omega (arith, (start c).requires.pages_in_bounds, c.plan_entry.auto.planned)
 
-module _ (c : After-plan_entry) (last : ℕ) (v : c.plan-entry.result ≡ Ends last) where
+module _ (c : After-plan_entry) (last : ℕ) (v : c.plan_entry.result ≡ Ends last) where
   answer : Ends last ≡ reach_answer (start c).args.geometry.parameters (start c).args.geometry.growth (file (start c)) (new_star_lem (start c).args.star.number (start c).args.star.word (start c).args.star.owner)
-  answer = sym v ∙ c.plan-entry.ensures.0 (start c).args.star.word (start c).args.star.owner
+  answer = sym v ∙ c.plan_entry.ensures.by_index (start c).args.star.word (start c).args.star.owner
 
   low : (start c).args.star.home ≤ last
   low =
@@ -55,7 +46,7 @@ module _ (c : After-plan_entry) (last : ℕ) (v : c.plan-entry.result ≡ Ends l
       rw (home-is s) (last-least s.args.geometry.parameters s.args.geometry.growth (file s) s.args.star.number s.args.star.word s.args.star.owner last answer)
 
   high : last < (start c).args.geometry.parameters.pages
-  high = (c.plan-entry.ensures.1 (start c).args.star.word (start c).args.star.owner last v).0
+  high = (c.plan_entry.ensures.applies (start c).args.star.word (start c).args.star.owner last v).0
 
 pub plan_entry-requires : goal.plan_entry-requires
 plan_entry-requires c =
@@ -77,7 +68,7 @@ slice_bounds-named_from-end c = longer c.before.before.before.before.before.befo
 pub slice_bounds-named_from-end-in-Ends : goal.slice_bounds-named_from-end-in-Ends
 slice_bounds-named_from-end-in-Ends c =
     let x = c.before.before.before.before.before.before.before.before.before.before in
-    sym (length-take-le (start x).args.geometry.parameters.pages x.plan_entry.new.1.1.1.1.1.1.1.1.0 (longer x))
+    sym (length-take-le (start x).args.geometry.parameters.pages x.plan_entry.new.planned (longer x))
 
 pub named_from-page-requires : goal.named_from-page-requires
 named_from-page-requires c =
@@ -85,53 +76,44 @@ named_from-page-requires c =
     let planned = c.plan_entry in
     record {
       homing = s.requires.enters.ready.homing;
-      separators_len = length-take-le s.args.geometry.parameters.pages planned.new.1.1.1.1.1.1.1.1.0 (longer c.before.before.before.before.before.before.before.before.before.before);
+      separators_len = length-take-le s.args.geometry.parameters.pages planned.new.planned (longer c.before.before.before.before.before.before.before.before.before.before);
       home_value = s.requires.enters.homed;
     }
 
 pub overflow_add-result : goal.overflow_add-result
 overflow_add-result c =
     let x = c.before.before.before.before.before.before.before.before.before.before.before in
-    let v = c.last-1.given in
-    omega (arith, high x v.0.0 v.1, (bounds (start x)).pages_most)
+    let w = c.in-Ends in
+    omega (arith, high x w.last w.is, (bounds (start x)).pages_most)
 
 pub overflow_sub-result : goal.overflow_sub-result
 overflow_sub-result c =
     let x = c.before.before.before.before.before.before.before.before.before.before.before.before in
-    let v = c.last-1.given in
-    omega (arith, low x v.0.0 v.1)
-
-abbrev after-plan_entry : In-Unsound → After-plan_entry
-after-plan_entry c = c.before.before.before.before.before.before.before.before.before
+    let w = c.in-Ends in
+    omega (arith, low x w.last w.is)
 
 pub returns-in-Unsound : goal.returns-in-Unsound
 returns-in-Unsound c =
     let x = c.before.before.before.before.before.before.before.before.before.before in
     let s = start x in
-    let v = c.page-1.given in
-    let done = unsound-answer s.args.geometry.parameters s.args.geometry.growth (file s) s.args.star.number s.args.star.word s.args.star.owner v.0.0 (sym v.1 ∙ x.plan_entry.ensures.by_index s.args.star.word s.args.star.owner) in
+    let w = c.in-Unsound in
+    let done = unsound-answer s.args.geometry.parameters s.args.geometry.growth (file s) s.args.star.number s.args.star.word s.args.star.owner w.page (sym w.is ∙ x.plan_entry.ensures.by_index s.args.star.word s.args.star.owner) in
     record { answers = done.0; files = done.1; feasible = tt }
-
-abbrev after-plan_entry-2 : In-Overflows → After-plan_entry
-after-plan_entry-2 c = c.before.before.before.before.before.before.before.before
 
 pub returns-in-Overflows : goal.returns-in-Overflows
 returns-in-Overflows c =
     let x = c.before.before.before.before.before.before.before.before.before in
     let s = start x in
-    let done = overflows_answer s.args.geometry.parameters s.args.geometry.growth (file s) s.args.star.number s.args.star.word s.args.star.owner (sym c.enum_told-1.given.1 ∙ x.plan_entry.ensures.by_index s.args.star.word s.args.star.owner) in
+    let done = overflows_answer s.args.geometry.parameters s.args.geometry.growth (file s) s.args.star.number s.args.star.word s.args.star.owner (sym c.in-Overflows.is ∙ x.plan_entry.ensures.by_index s.args.star.word s.args.star.owner) in
     record { answers = done.0; files = done.1; feasible = tt }
-
-abbrev after-plan_entry-3 : After-named_from-page → After-plan_entry
-after-plan_entry-3 c = c.before.before.before.before.before.before.before.before.before.before
 
 pub returns-in-Ends : goal.returns-in-Ends
 returns-in-Ends c =
     let x = c.before.before.before.before.before.before.before.before.before.before.before in
     let s = start x in
-    let v = c.last-1.given in
-    let last = v.0.0 in
-    ends_decided s.args.geometry.parameters s.args.geometry.growth (file s) s.args.star.number s.args.star.word s.args.star.owner last (answer x last v.1)
-    x.plan_entry.new.1.1.1.1.1.1.0 x.plan_entry.new.1.1.1.1.1.1.1.1.0 s.requires.enters.ready.sized (high x last v.1)
-    (longer x) (λ word owner l e. x.plan_entry.ensures.applies word owner l (v.1 ∙ e))
+    let w = c.in-Ends in
+    let last = w.last in
+    ends_decided s.args.geometry.parameters s.args.geometry.growth (file s) s.args.star.number s.args.star.word s.args.star.owner last (answer x last w.is)
+    x.plan_entry.new.pool x.plan_entry.new.planned s.requires.enters.ready.sized (high x last w.is)
+    (longer x) (λ word owner l e. x.plan_entry.ensures.applies word owner l (w.is ∙ e))
     s.args.star.home c.named_from-page.result (home-is s) c.named_from-page.ensures

@@ -47,10 +47,10 @@ put_table-requires c =
     let d = c.before.before.before in
     let pre = (start d).requires in
     record {
-      words_len = pre.0;
-      numbers_len_bound = pre.1.0;
+      words_len = pre.words_len;
+      numbers_len_bound = pre.numbers_len_bound;
       numbers_len = sym d.count_held-rows.ensures;
-      rows_up = pre.1.1;
+      rows_up = pre.rows_up;
       n_in_bounds = omega (arith, c.if-out-length.false);
     }
 

@@ -7,8 +7,8 @@ use Rattle.fits.proofs.putting.written_answer.Goals as goal
 
 pub returns-in-Length : goal.returns-in-Length
 unfolding length_said counted
-returns-in-Length c = sym (ap length_said c.answer-1.given.1)
+returns-in-Length c = sym (ap length_said c.in-Length.is)
 
 pub returns-in-Refused : goal.returns-in-Refused
 unfolding length_said due_said
-returns-in-Refused c = c.due_answer.ensures ∙ sym (ap length_said c.answer-in-Refused-1.given.1)
+returns-in-Refused c = c.due_answer.ensures ∙ sym (ap length_said c.in-Refused.is)

@@ -12,11 +12,8 @@ turn_away-requires c = failed _ _ c.at_rest.ensures (ap not c.if-not-at_rest.tru
 
 pub returns-then-not-at_rest : goal.returns-then-not-at_rest
 unfolding read_under
-returns-then-not-at_rest c = c.turn_away.ensures _
+returns-then-not-at_rest c = record { leaves = c.turn_away.ensures _ }
 
 pub returns : goal.returns
 unfolding read_under
-returns c =
-    let d = c.before.before.before.before.before.before.before.before.before.before.before.before.before.before.before in
-    let r = d.before.before.before.before.before.before.before.before.before in
-    rw (in_turn_lem _ _ _ _ _ _ (passed _ _ r.at_rest.ensures (ap not r.if-not-at_rest.false))) d.read_closed.ensures
+returns c = record { leaves = rw (in_turn_lem _ _ _ _ _ _ (passed _ _ c.at_rest.ensures (ap not c.if-not-at_rest.false))) c.read_closed.ensures }

@@ -105,6 +105,6 @@ returns c =
       homes-are = rw (add-one (stop - lo)) at c.rehome_items.ensures;
       homes-long = c.rehome_items.auto.homes;
       waiting = _;
-      past-it = _;
+      past_it = _;
       plan = rw (add-one (stop - lo)) at y.ensures;
     }

@@ -22,8 +22,8 @@ returns-then-there-eq0 c =
     (passed-found c.loop-i.invariant.1 (omega arith)
     (rw (get_or-drop (c.args.page * c.args.places) ns i 0)
     (elim c.then-there-eq0.branch [
-      then-there-eq0-via-then-there-eq0 w ↦ rw (eq-eqb _ _ w.if-there-eq0.true)
-    | then-there-eq0-via-else-there-eq0+then-number-there w ↦ rw (ne_eqb _ _ w.if-there-eq0.false, le-leb _ _ w.if-number-there.true)
+      | then-there-eq0-via-then-there-eq0 w ↦ rw (eq-eqb _ _ w.if-there-eq0.true)
+      | then-there-eq0-via-else-there-eq0+then-number-there w ↦ rw (ne_eqb _ _ w.if-there-eq0.false, le-leb _ _ w.if-number-there.true)
     ])))
 
 pub loop-i-preserved : goal.loop-i-preserved

@@ -36,8 +36,8 @@ shape_of-owners-then-bad-pages c = refl
 pub returns-then-bad-pages : goal.returns-then-bad-pages
 returns-then-bad-pages c =
     record {
-      value = (growth_refused _ _ _ c.requires.ready.homing.valid c.requires.ready.sized _ _ _ c.survey_pages-bad.ensures.value c.if-bad-pages.true).0;
-      owners_value = (growth_refused _ _ _ c.requires.ready.homing.valid c.requires.ready.sized _ _ _ c.survey_pages-bad.ensures.value c.if-bad-pages.true).1;
+      value = (growth_refused _ _ _ c.requires.ready.homing.valid c.requires.ready.sized _ c.args.page _ c.survey_pages-bad.ensures.value c.if-bad-pages.true).0;
+      owners_value = (growth_refused _ _ _ c.requires.ready.homing.valid c.requires.ready.sized _ c.args.page _ c.survey_pages-bad.ensures.value c.if-bad-pages.true).1;
     }
 
 -- all pages are sound, and the pool holds the homes of their items
@@ -80,11 +80,11 @@ replace_all-requires c =
 
 pub shape_of-pool : goal.shape_of-pool
 shape_of-pool c =
-    c.replace_all.auto.pool ∙ c.grow_in_place.auto.pool ∙ c.survey_pages.auto.homes
+    c.replace_all.auto.pool ∙ c.grow_in_place.auto.pool ∙ c.survey_pages-bad.auto.homes
 
 pub returns : goal.returns
 returns c =
     record {
-      value = (still-done _ _ _ _ _ _ _ _ (c.grow_in_place.ensures.kept c.if-grow_in_place.false) c.replace_all.ensures).0;
-      owners_value = (still-done _ _ _ _ _ _ _ _ (c.grow_in_place.ensures.kept c.if-grow_in_place.false) c.replace_all.ensures).1;
+      value = (still-done _ _ _ _ _ _ c.args.page _ (c.grow_in_place.ensures.kept c.if-grow_in_place.false) (c.replace_all.ensures.value, c.replace_all.ensures.owners_value)).0;
+      owners_value = (still-done _ _ _ _ _ _ c.args.page _ (c.grow_in_place.ensures.kept c.if-grow_in_place.false) (c.replace_all.ensures.value, c.replace_all.ensures.owners_value)).1;
     }

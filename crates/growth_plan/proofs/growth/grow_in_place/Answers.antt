@@ -30,7 +30,7 @@ returns-then-not-move_stars c =
       accepts = λ e. absurd (false≢true e);
       file = λ e. absurd (false≢true e);
       kept = λ _. same-file _ _ _ _ _ _ _ still.of_numbers still.of_words_lem still.of_owners;
-      pool-kept = λ _. still.of_homes;
+      pool_kept = λ _. still.of_homes;
     }
 
 pub grown-growth-requires : goal.grown-growth-requires
@@ -46,10 +46,10 @@ replace_blocks-requires c =
     let m = moved in
     record {
       placeable = rw c.grown-growth.ensures (record {
-          valid = c.requires.ready.homing.valid;
-          sized = m.sized;
-          pooled = record { of_numbers = c.move_stars.auto.homes ∙ c.requires.pooled.of_numbers; of_words_lem = c.requires.pooled.of_words_lem; of_owners = c.requires.pooled.of_owners };
-        });
+        valid = c.requires.ready.homing.valid;
+        sized = m.sized;
+        pooled = record { of_numbers = c.move_stars.auto.homes ∙ c.requires.pooled.of_numbers; of_words_lem = c.requires.pooled.of_words_lem; of_owners = c.requires.pooled.of_owners };
+      });
       pages_value = rw c.grown-growth.ensures (m.all_sound_lem);
       pool_value = rw c.grown-growth.ensures (m.homes);
     }
@@ -62,5 +62,5 @@ returns c =
       accepts = λ _. grown-answer _ _ _ _ _ _ c.requires.ready.sized c.requires.pages_value moved renewed;
       file = λ _. grown-file _ _ _ _ _ _ c.requires.ready.sized c.requires.pages_value moved renewed;
       kept = λ c. absurd (false≢true (sym c));
-      pool-kept = λ c. absurd (false≢true (sym c));
+      pool_kept = λ c. absurd (false≢true (sym c));
     }

@@ -20,7 +20,6 @@ use Rattle.growth_plan.specs.Growth.{growth_file}
 use Rattle.growth_plan.proofs.GivenBack.{own_of, clean_laid, own-listed, own-takeable, others-laid, all-entered, back-grown, none-entered, highest-inside}
 use Rattle.growth_plan.proofs.growth.move_own.Goals as goal
 
-
 -- the own stars
 -- taken from their page
 -- entered under the growth state before
@@ -64,10 +63,10 @@ enter_own-entered-requires c =
     let valid-before : valid_growth (c.args.geometry.parameters) (shrunk (c.args.geometry.parameters) (c.args.geometry.growth)) ≡ true = shrunk-valid (c.args.geometry.parameters) (c.args.geometry.growth) c.requires.ready.homing.valid c.requires.movable c.requires.ready.homing.growth in
     record {
       ready = rw c.shrunk-growth.ensures (record {
-          homing = record { table = c.requires.ready.homing.table; valid = c.requires.ready.homing.valid; growth = valid-before };
-          sized = laid-sized _ _ (lent c.take_own.new.separators c.take_own.new.numbers c.take_own.new.words c.take_own.new.owners) _ c.requires.ready.homing.valid valid-before others;
-        });
-      pooled = rw c.shrunk-growth.ensures (pooled-taken);
+        homing = record { table = c.requires.ready.homing.table; valid = c.requires.ready.homing.valid; growth = valid-before };
+        sized = laid-sized _ _ (lent c.take_own.new.separators c.take_own.new.numbers c.take_own.new.words c.take_own.new.owners) _ c.requires.ready.homing.valid valid-before others;
+      });
+      pooled = pooled-taken;
       entered_below = rw c.shrunk-growth.ensures (record { stars = all_stars c.args.geometry.parameters (lent c.args.separators.now c.args.numbers.now c.args.words.now c.args.owners.now); listed = listed; begun = omega arith; laid_out = others });
     }
 
@@ -91,10 +90,10 @@ grow-requires c =
     let valid-before : valid_growth (c.args.geometry.parameters) (shrunk (c.args.geometry.parameters) (c.args.geometry.growth)) ≡ true = shrunk-valid (c.args.geometry.parameters) (c.args.geometry.growth) c.requires.ready.homing.valid c.requires.movable c.requires.ready.homing.growth in
     record {
       ready = rw c.shrunk-growth.ensures (record {
-          homing = record { table = c.requires.ready.homing.table; valid = c.requires.ready.homing.valid; growth = valid-before };
-          sized = laid-sized _ _ (lent c.enter_own-entered.new.separators c.enter_own-entered.new.numbers c.enter_own-entered.new.words c.enter_own-entered.new.owners) _ c.requires.ready.homing.valid valid-before some-entered.laid_out;
-        });
-      pooled = rw c.shrunk-growth.ensures (pooled-entered);
+        homing = record { table = c.requires.ready.homing.table; valid = c.requires.ready.homing.valid; growth = valid-before };
+        sized = laid-sized _ _ (lent c.enter_own-entered.new.separators c.enter_own-entered.new.numbers c.enter_own-entered.new.words c.enter_own-entered.new.owners) _ c.requires.ready.homing.valid valid-before some-entered.laid_out;
+      });
+      pooled = pooled-entered;
       movable = rw c.shrunk-growth.ensures (shrunk-below (c.args.geometry.parameters) (c.args.geometry.growth) c.requires.ready.homing.valid c.requires.movable c.requires.ready.homing.growth);
     }
 

@@ -28,8 +28,8 @@ shrink-requires c =
 
 pub returns-then-back : goal.returns-then-back
 returns-then-back c = record {
-  value = (regrown true _ _ _ _ _ _ _ c.if-back.true c.shrink.ensures).0;
-  owners_value = (regrown true _ _ _ _ _ _ _ c.if-back.true c.shrink.ensures).1;
+  value = (regrown true _ _ _ _ _ _ _ c.if-back.true (c.shrink.ensures.value, c.shrink.ensures.owners_value)).0;
+  owners_value = (regrown true _ _ _ _ _ _ _ c.if-back.true (c.shrink.ensures.value, c.shrink.ensures.owners_value)).1;
 }
 
 pub grow-requires : goal.grow-requires
@@ -42,6 +42,6 @@ grow-requires c =
 
 pub returns : goal.returns
 returns c = record {
-  value = (regrown false _ _ _ _ _ _ _ c.if-back.false c.grow.ensures).0;
-  owners_value = (regrown false _ _ _ _ _ _ _ c.if-back.false c.grow.ensures).1;
+  value = (regrown false _ _ _ _ _ _ _ c.if-back.false (c.grow.ensures.value, c.grow.ensures.owners_value)).0;
+  owners_value = (regrown false _ _ _ _ _ _ _ c.if-back.false (c.grow.ensures.value, c.grow.ensures.owners_value)).1;
 }

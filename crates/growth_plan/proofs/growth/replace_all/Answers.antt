@@ -37,7 +37,7 @@ returns-then-not-plan_all c =
     let later : let p = c.args.geometry.parameters in valid_growth p (state_after c.args.back p c.args.geometry.growth) ≡ true = next-valid c.args.back _ _ c.requires.ready.homing.valid c.requires.ready.homing.growth c.requires.movable in
     record {
       value = (plan_overflows _ _ _ (lent c.args.separators.now c.args.numbers.now c.args.words.now c.args.owners.now) c.requires.ready.homing.valid c.requires.ready.sized later c.requires.pages_value _ _ _ _ _ _ c.plan_all.ensures c.if-not-plan_all.true).0;
-      owners_value = (plan_overflows _ _ _ (lent c.args.separators.now c.args.numbers.now c.args.words.now c.args.owners.now) c.requires.ready.homing.valid c.requires.ready.sized later c.requires.pages_value _ _ _ _ _ _ c.plan_all.ensures c.if-not-plan_all.true).1;
+      owners_value = (plan_overflows _ _ _ (lent c.args.separators.now c.args.numbers.now c.args.words.now c.args.owners.now) c.requires.ready.homing.valid c.requires.ready.sized later c.requires.pages_value _ _ _ _ _ c.args.page c.plan_all.ensures c.if-not-plan_all.true).1;
     }
 
 pub apply-requires : goal.apply-requires

@@ -37,8 +37,8 @@ shape_of-owners-then-bad-pages c = refl
 pub returns-then-bad-pages : goal.returns-then-bad-pages
 returns-then-bad-pages c =
     record {
-      value = (growth_refused _ _ _ c.requires.ready.homing.valid c.requires.ready.sized _ _ _ c.survey_pages-bad.ensures.value c.if-bad-pages.true).0;
-      owners_value = (growth_refused _ _ _ c.requires.ready.homing.valid c.requires.ready.sized _ _ _ c.survey_pages-bad.ensures.value c.if-bad-pages.true).1;
+      value = (growth_refused _ _ _ c.requires.ready.homing.valid c.requires.ready.sized _ c.args.page _ c.survey_pages-bad.ensures.value c.if-bad-pages.true).0;
+      owners_value = (growth_refused _ _ _ c.requires.ready.homing.valid c.requires.ready.sized _ c.args.page _ c.survey_pages-bad.ensures.value c.if-bad-pages.true).1;
     }
 
 pub is_simple-requires : goal.is_simple-requires
@@ -80,12 +80,12 @@ move_own-requires c =
 
 pub returns-then-move_own : goal.returns-then-move_own
 returns-then-move_own c = record {
-  value = (moved_on _ _ _ _ _ c.move_own.ensures c.if-move_own.true _).0;
-  owners_value = (moved_on _ _ _ _ _ c.move_own.ensures c.if-move_own.true _).1;
+  value = (moved_on _ _ _ _ _ c.move_own.ensures c.if-move_own.true c.args.page).0;
+  owners_value = (moved_on _ _ _ _ _ c.move_own.ensures c.if-move_own.true c.args.page).1;
 }
 
 pub returns : goal.returns
 returns c = record {
-  value = (moved-not _ _ _ _ _ c.move_own.ensures c.if-move_own.false _).0;
-  owners_value = (moved-not _ _ _ _ _ c.move_own.ensures c.if-move_own.false _).1;
+  value = (moved-not _ _ _ _ _ c.move_own.ensures c.if-move_own.false c.args.page).0;
+  owners_value = (moved-not _ _ _ _ _ c.move_own.ensures c.if-move_own.false c.args.page).1;
 }

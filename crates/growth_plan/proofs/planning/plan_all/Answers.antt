@@ -15,7 +15,6 @@ use Rattle.growth_plan.proofs.Growing.{next-valid}
 use Rattle.growth_plan.proofs.PlannedGrowth.{all-ready, words-fit, settleable, placed-again}
 use Rattle.growth_plan.proofs.planning.plan_all.Goals as goal
 
-
 of_homes_lem : (p : Parameters) (ns hs hs' pool' planned planned' W' : List ℕ) (r : Bool) → hs ≡ hs'
     → AllPlaced p (stretch_words p.places 0 p.pages 0 ns hs) hs pool' planned planned' W' r
     → AllPlaced p (stretch_words p.places 0 p.pages 0 ns hs') hs' pool' planned planned' W' r

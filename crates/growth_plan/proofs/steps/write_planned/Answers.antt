@@ -13,22 +13,22 @@ use Rattle.growth_plan.proofs.steps.write_planned.Goals as goal
 pub copy_32-requires : goal.copy_32-requires
 copy_32-requires c =
     record {
-      in_bounds = (omega (arith, c.requires, c.fetch.auto)).0;
-      in_bounds_2 = (omega (arith, c.requires, c.fetch.auto)).1;
+      in_bounds = omega (arith, c.requires, c.fetch.auto);
+      in_bounds_2 = omega (arith, c.requires, c.fetch.auto);
     }
 
 pub copy_64-requires : goal.copy_64-requires
 copy_64-requires c =
     record {
-      in_bounds = (omega (arith, c.requires, c.fetch.auto)).0;
-      in_bounds_2 = (omega (arith, c.requires, c.fetch.auto)).1;
+      in_bounds = omega (arith, c.requires, c.fetch.auto);
+      in_bounds_2 = omega (arith, c.requires, c.fetch.auto);
     }
 
 pub copy_8-requires-2 : goal.copy_8-requires-2
 copy_8-requires-2 c =
     record {
-      in_bounds = (omega (arith, c.requires, c.fetch.auto)).0;
-      in_bounds_2 = (omega (arith, c.requires, c.fetch.auto)).1;
+      in_bounds = omega (arith, c.requires, c.fetch.auto);
+      in_bounds_2 = omega (arith, c.requires, c.fetch.auto);
     }
 
 pub returns : goal.returns

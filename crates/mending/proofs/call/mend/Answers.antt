@@ -22,8 +22,8 @@ shape_of-owners-then-not-at_rest c = refl
 
 pub returns-then-not-at_rest : goal.returns-then-not-at_rest
 unfolding mend_under
-returns-then-not-at_rest c = c.turn_away.ensures _
+returns-then-not-at_rest c = record { leaves = c.turn_away.ensures _ }
 
 pub returns : goal.returns
 unfolding mend_under
-returns c = rw (in_turn_lem _ _ _ _ _ _ (passed _ _ c.at_rest.ensures (ap not c.if-not-at_rest.false))) c.mend_at.ensures
+returns c = record { leaves = rw (in_turn_lem _ _ _ _ _ _ (passed _ _ c.at_rest.ensures (ap not c.if-not-at_rest.false))) c.mend_at.ensures }

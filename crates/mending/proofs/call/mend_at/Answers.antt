@@ -22,9 +22,9 @@ mend_file-answer-requires c =
     let none : unlent c.args.parameters c.args.growth (file_fits_lem c.args.parameters (lent c.args.separators.now c.args.numbers.now c.args.words.now c.args.owners.now) && pool_fits_lem c.args.parameters (pooled c.args.poolnumbers.now c.args.poolwords.now c.args.poolowners.now)) ≡ 0 = none_is _ _ c.guard.ensures c.all_fit-fits.ensures c.in_default.is in
     let lent-well : Admitted c.args.parameters c.args.growth (lent c.args.separators.now c.args.numbers.now c.args.words.now c.args.owners.now) × Pooled c.args.parameters (pooled c.args.poolnumbers.now c.args.poolwords.now c.args.poolowners.now).numbers (pooled c.args.poolnumbers.now c.args.poolwords.now c.args.poolowners.now).words (pooled c.args.poolnumbers.now c.args.poolwords.now c.args.poolowners.now).owners = admitted-pool _ _ _ (pooled c.args.poolnumbers.now c.args.poolwords.now c.args.poolowners.now) none in
     record {
-  admitted = lent-well.0;
-  pooled = lent-well.1;
-}
+      admitted = lent-well.0;
+      pooled = lent-well.1;
+    }
 
 pub returns : goal.returns
 unfolding mend_of file_fits_lem pool_fits_lem
@@ -35,4 +35,4 @@ returns c =
     rw none
     (leaves-cleared _ _ _ (pooled c.args.poolnumbers.now c.args.poolwords.now c.args.poolowners.now) _ done.ensures
     (mended_pool c.args.parameters c.args.growth (lent c.args.separators.now c.args.numbers.now c.args.words.now c.args.owners.now) (cleared (pooled c.args.poolnumbers.now c.args.poolwords.now c.args.poolowners.now)))
-    (cleared-is _ _ _ _ _ _ _ _ _ zeros.pool_after zeros.waiting_after zeros.poolowners_after done.auto.pool done.auto.waiting done.auto.poolowners))
+    (cleared-is _ _ _ _ _ _ _ _ _ zeros.pool_after zeros.waiting_after zeros.poolowners_after done.auto.poolnumbers done.auto.poolwords done.auto.poolowners))

@@ -60,7 +60,7 @@ pub returns-then-not-collected : goal.returns-then-not-collected
 returns-then-not-collected c =
     let valid : valid_items (lent c.args.separators.now c.args.numbers.now c.args.words.now c.args.owners.now).numbers (lent c.args.separators.now c.args.numbers.now c.args.words.now c.args.owners.now).words (lent c.args.separators.now c.args.numbers.now c.args.words.now c.args.owners.now).owners ≡ true = passed _ _ c.items_valid.ensures (ap not c.if-not-items_valid.false) in
     let collected : Collects c.args.parameters (lent c.args.separators.now c.args.numbers.now c.args.words.now c.args.owners.now).numbers (lent c.args.separators.now c.args.numbers.now c.args.words.now c.args.owners.now).words (lent c.args.separators.now c.args.numbers.now c.args.words.now c.args.owners.now).owners (homes_of c.args.parameters c.args.growth (lent c.args.separators.now c.args.numbers.now c.args.words.now c.args.owners.now).numbers) c.collect-collected.new.waiting c.collect-collected.new.ends c.collect-collected.result = subst (λ (h : List ℕ). Collects c.args.parameters (lent c.args.separators.now c.args.numbers.now c.args.words.now c.args.owners.now).numbers (lent c.args.separators.now c.args.numbers.now c.args.words.now c.args.owners.now).words (lent c.args.separators.now c.args.numbers.now c.args.words.now c.args.owners.now).owners h c.collect-collected.new.waiting c.collect-collected.new.ends c.collect-collected.result) c.find_homes.ensures c.collect-collected.ensures in
-    mend_differs c.args.parameters c.args.growth (lent c.args.separators.now c.args.numbers.now c.args.words.now c.args.owners.now) (cleared (pooled c.args.poolnumbers.now c.args.poolwords.now c.args.poolowners.now)) c.requires.admitted valid _ _ _ collected (failed _ _ refl (ap not c.if-not-collected.true))
+    mend_differs c.args.parameters c.args.growth (lent c.args.separators.now c.args.numbers.now c.args.words.now c.args.owners.now) (cleared (pooled c.args.poolnumbers.now c.args.poolwords.now c.args.poolowners.now)) c.requires.admitted valid _ _ _ collected (failed _ _ refl c.if-not-collected.true)
 
 pub renew-requires : goal.renew-requires
 renew-requires c =
@@ -69,7 +69,7 @@ renew-requires c =
     let collected : Collects c.args.parameters (lent c.args.separators.now c.args.numbers.now c.args.words.now c.args.owners.now).numbers (lent c.args.separators.now c.args.numbers.now c.args.words.now c.args.owners.now).words (lent c.args.separators.now c.args.numbers.now c.args.words.now c.args.owners.now).owners (homes_of c.args.parameters c.args.growth (lent c.args.separators.now c.args.numbers.now c.args.words.now c.args.owners.now).numbers) c.collect-collected.new.waiting c.collect-collected.new.ends c.collect-collected.result = subst (λ (h : List ℕ). Collects c.args.parameters (lent c.args.separators.now c.args.numbers.now c.args.words.now c.args.owners.now).numbers (lent c.args.separators.now c.args.numbers.now c.args.words.now c.args.owners.now).words (lent c.args.separators.now c.args.numbers.now c.args.words.now c.args.owners.now).owners h c.collect-collected.new.waiting c.collect-collected.new.ends c.collect-collected.result) c.find_homes.ensures c.collect-collected.ensures in
     let a = c.requires.admitted in
     let o = c.requires.pooled in
-    let t = passed _ _ refl (ap not c.if-not-collected.false) in
+    let t = passed _ _ refl c.if-not-collected.false in
     let v = valid in record {
       parameters_value = a.homing.valid;
       sized = a.sized;
@@ -86,7 +86,7 @@ pub returns-then-not-renew : goal.returns-then-not-renew
 returns-then-not-renew c =
     let valid : valid_items (lent c.args.separators.now c.args.numbers.now c.args.words.now c.args.owners.now).numbers (lent c.args.separators.now c.args.numbers.now c.args.words.now c.args.owners.now).words (lent c.args.separators.now c.args.numbers.now c.args.words.now c.args.owners.now).owners ≡ true = passed _ _ c.items_valid.ensures (ap not c.if-not-items_valid.false) in
     let collected : Collects c.args.parameters (lent c.args.separators.now c.args.numbers.now c.args.words.now c.args.owners.now).numbers (lent c.args.separators.now c.args.numbers.now c.args.words.now c.args.owners.now).words (lent c.args.separators.now c.args.numbers.now c.args.words.now c.args.owners.now).owners (homes_of c.args.parameters c.args.growth (lent c.args.separators.now c.args.numbers.now c.args.words.now c.args.owners.now).numbers) c.collect-collected.new.waiting c.collect-collected.new.ends c.collect-collected.result = subst (λ (h : List ℕ). Collects c.args.parameters (lent c.args.separators.now c.args.numbers.now c.args.words.now c.args.owners.now).numbers (lent c.args.separators.now c.args.numbers.now c.args.words.now c.args.owners.now).words (lent c.args.separators.now c.args.numbers.now c.args.words.now c.args.owners.now).owners h c.collect-collected.new.waiting c.collect-collected.new.ends c.collect-collected.result) c.find_homes.ensures c.collect-collected.ensures in
-    let t = passed _ _ refl (ap not c.if-not-collected.false) in
+    let t = passed _ _ refl c.if-not-collected.false in
     mend_over c.args.parameters c.args.growth (lent c.args.separators.now c.args.numbers.now c.args.words.now c.args.owners.now) (cleared (pooled c.args.poolnumbers.now c.args.poolwords.now c.args.poolowners.now)) c.requires.admitted valid _ _ _ collected t (sym (failed _ _ c.renew.ensures.value (ap not c.if-not-renew.true))) _ c.renew.ensures.owners_value
 
 pub shape_of-poolnumbers : goal.shape_of-poolnumbers
@@ -97,5 +97,5 @@ pub returns : goal.returns
 returns c =
     let valid : valid_items (lent c.args.separators.now c.args.numbers.now c.args.words.now c.args.owners.now).numbers (lent c.args.separators.now c.args.numbers.now c.args.words.now c.args.owners.now).words (lent c.args.separators.now c.args.numbers.now c.args.words.now c.args.owners.now).owners ≡ true = passed _ _ c.items_valid.ensures (ap not c.if-not-items_valid.false) in
     let collected : Collects c.args.parameters (lent c.args.separators.now c.args.numbers.now c.args.words.now c.args.owners.now).numbers (lent c.args.separators.now c.args.numbers.now c.args.words.now c.args.owners.now).words (lent c.args.separators.now c.args.numbers.now c.args.words.now c.args.owners.now).owners (homes_of c.args.parameters c.args.growth (lent c.args.separators.now c.args.numbers.now c.args.words.now c.args.owners.now).numbers) c.collect-collected.new.waiting c.collect-collected.new.ends c.collect-collected.result = subst (λ (h : List ℕ). Collects c.args.parameters (lent c.args.separators.now c.args.numbers.now c.args.words.now c.args.owners.now).numbers (lent c.args.separators.now c.args.numbers.now c.args.words.now c.args.owners.now).words (lent c.args.separators.now c.args.numbers.now c.args.words.now c.args.owners.now).owners h c.collect-collected.new.waiting c.collect-collected.new.ends c.collect-collected.result) c.find_homes.ensures c.collect-collected.ensures in
-    let t = passed _ _ refl (ap not c.if-not-collected.false) in
+    let t = passed _ _ refl c.if-not-collected.false in
     mend_done c.args.parameters c.args.growth (lent c.args.separators.now c.args.numbers.now c.args.words.now c.args.owners.now) (cleared (pooled c.args.poolnumbers.now c.args.poolwords.now c.args.poolowners.now)) c.requires.admitted valid _ _ _ collected t (sym (passed _ _ c.renew.ensures.value (ap not c.if-not-renew.false))) _ c.renew.ensures.owners_value

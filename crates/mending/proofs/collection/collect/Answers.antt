@@ -35,9 +35,9 @@ all_agree-requires c =
     let end-inside : c.gather-end.result ≤ length c.sort_groups.new.waiting = omega (arith, groups.inside, c.sort_groups.auto.waiting) in
     let end-few : c.gather-end.result ≤ 32768 = omega (arith, groups.inside, groups.few) in
     record {
-  end_in_bounds = end-inside;
-  end_bound = end-few;
-}
+      end_in_bounds = end-inside;
+      end_bound = end-few;
+    }
 
 pub returns-then-not-all_agree : goal.returns-then-not-all_agree
 returns-then-not-all_agree c =
@@ -46,7 +46,7 @@ returns-then-not-all_agree c =
       alike_is = sym (failed _ _ c.all_agree.ensures (ap not c.if-not-all_agree.true)) ∙ ap (neighbours_agree _ _) sorted;
       inside = omega arith;
       words = λ e. absurd (false≢true e);
-      ends-are = λ e. absurd (false≢true e);
+      ends_are = λ e. absurd (false≢true e);
     }
 
 pub drop_repeated-kept-requires : goal.drop_repeated-kept-requires
@@ -75,5 +75,5 @@ returns c =
       alike_is = sym (passed _ _ c.all_agree.ensures (ap not c.if-not-all_agree.false)) ∙ ap (neighbours_agree _ _) sorted;
       inside = omega (arith, c.drop_repeated-kept.ensures.upper_bound, end-inside, c.drop_repeated-kept.auto.waiting);
       words = λ e. c.drop_repeated-kept.ensures.waiting_after ∙ ap (firsts_after 0) sorted;
-      ends-are = λ e. c.mark_ends.ensures;
+      ends_are = λ e. c.mark_ends.ensures;
     }

@@ -24,12 +24,6 @@ use Rattle.removal_reach.proofs.changed.plan_changed.Goals.{Start}
 abbrev After-gather : Type 0
 After-gather = lts.After-gather tie.the-claims reads.Pre reads.Post tie.handed_clauses
 
-abbrev After-settle_changed : Type 0
-After-settle_changed = lts.After-settle_changed tie.the-claims reads.Pre reads.Post tie.handed_clauses
-
-abbrev After-slice_known-7-1 : Type 0
-After-slice_known-7-1 = lts.After-slice_known7 tie.the-claims reads.Pre reads.Post tie.handed_clauses
-
 -- the stretch's words
 abbrev L : Start → List ℕ
 L s =
@@ -51,10 +45,10 @@ abbrev start : After-gather → Start
 start c = c.before.before.before.before.before.before.before.before
 
 abbrev W : After-gather → List ℕ
-W c = c.gather.new.1.1.0
+W c = c.gather.new.waiting
 
 abbrev ends : After-gather → List ℕ
-ends c = c.gather.new.1.1.1.0
+ends c = c.gather.new.ends
 
 ready : (c : After-gather) → Started (start c).args.lo (start c).args.count 0 (L (start c)) (W c) (ends c)
 ready c = started _ _ _ _ (start c).args.waiting.now _ _ c.gather.ensures.scatters (enough (start c)) c.gather.auto.waiting
@@ -100,12 +94,6 @@ settle_changed-requires c =
       };
       places_in_bounds = p.of_numbers;
     }
-
-abbrev after-settle_changed : After-slice_known-7-1 → After-settle_changed
-after-settle_changed c = c.before.before.before.before.before.before
-
-abbrev after-gather : After-settle_changed → After-gather
-after-gather c = c.before.before.before.before.before.before.before.before
 
 pub returns : goal.returns
 returns c =

@@ -43,4 +43,4 @@ returns c =
     let s = c.before.before.before.before.before.before.before.before.before.before.before.before.before.before.before.before in
     let a = s.args in
     let d = c.settle_alone-settled in
-    page-planned a.parameters a.page (slice a.from a.reach a.waiting.now) a.reach a.waiting.now d.new.1.0 d.new.1.1.1.1.1.0 a.pool.now c.store_sources.new.0 a.planned.now d.result d.ensures.0 c.store_sources.ensures (omega (arith, s.requires))
+    page-planned a.parameters a.page (slice a.from a.reach a.waiting.now) a.reach a.waiting.now d.new.waiting d.new.slots a.pool.now c.store_sources.new.pool a.planned.now d.result d.ensures.settles c.store_sources.ensures (omega (arith, s.requires))

@@ -111,13 +111,13 @@ begun c = start (turn c).before
 
 next : (c : After-plan_page-from)
     → Settling (begun c).args.parameters (begun c).args.lo (begun c).args.count 0 (L (begun c)) (begun c).args.waiting.now (begun c).args.pool.now (begun c).args.planned.now
-    c.plan_page-from.new.1.0 c.plan_page-from.new.1.1.0 c.plan_page-from.new.1.1.1.0 c.plan_page-from.result ((turn c).loop-v.v + 1)
+    c.plan_page-from.new.pool c.plan_page-from.new.waiting c.plan_page-from.new.planned c.plan_page-from.result ((turn c).loop-v.v + 1)
 next c =
     let i = turn c in
     let p = (begun c).requires.settleable in
     let d = c.plan_page-from in
-    settling-next _ _ _ _ _ _ _ _ _ p.grouped_are _ _ _ _ _ i.loop-v.inv.0 i.loop-v-test.taken _ (reach-is i) _ _ _ _
-    d.ensures p.of_pool p.of_planned d.auto.1.0 d.auto.1.1.0 d.auto.1.1.1.0
+    settling-next _ _ _ _ _ _ _ _ _ p.grouped_are _ _ _ _ _ i.loop-v.invariant.0 i.loop-v-test.true _ (reach-is i) _ _ _ _
+    d.ensures p.of_pool p.of_planned d.auto.pool d.auto.waiting d.auto.planned
 
 items : (c : After-plan_page-from)
     → ((begun c).args.lo + (turn c).loop-v.v + 1) * (begun c).args.parameters.places ≤ ((begun c).args.lo + (begun c).args.count) * (begun c).args.parameters.places
@@ -137,7 +137,7 @@ pub overflow_mul-page : goal.overflow_mul-page
 overflow_mul-page c = let d = planned c.before in record { fits = omega (arith, page-first d, items d, most d) }
 
 pub overflow_add-page-in-loop-v : goal.overflow_add-page-in-loop-v
-overflow_add-page-in-loop-v c = let d = planned c.before in record { fits = omega (arith, (turn d).loop-v-test.taken, (begun d).requires.settleable.pages) }
+overflow_add-page-in-loop-v c = let d = planned c.before in record { fits = omega (arith, (turn d).loop-v-test.true, (begun d).requires.settleable.pages) }
 
 pub overflow_mul-page-in-loop-v : goal.overflow_mul-page-in-loop-v
 overflow_mul-page-in-loop-v c = let d = planned c.before in record { fits = omega (arith, items d, most d) }
@@ -147,13 +147,13 @@ count_stars-stored-requires c = let d = planned c.before in (page-first d, omega
 
 -- the page's stars counted
 stored_next : (c : After-count_stars-stored)
-    → (turn (planned c.before)).before.loop.stored + c.count_stars-stored.result
-    ≡ stars_in 0 (stretch (begun (planned c.before)).args.parameters.places (begun (planned c.before)).args.lo ((turn (planned c.before)).before.loop.v + 1) (begun (planned c.before)).args.numbers.now)
+    → (turn (planned c.before)).loop-v.stored + c.count_stars-stored.result
+    ≡ stars_in 0 (stretch (begun (planned c.before)).args.parameters.places (begun (planned c.before)).args.lo ((turn (planned c.before)).loop-v.v + 1) (begun (planned c.before)).args.numbers.now)
 stored_next c =
     let d = planned c.before in
     let a = (begun d).args in
     let k = (turn d).loop-v in
-    ap (λ (n : ℕ). n + c.count_stars-stored.result) k.inv.1
+    ap (λ (n : ℕ). n + c.count_stars-stored.result) k.invariant.1
     ∙ ap (λ (n : ℕ). stars_in 0 (stretch a.parameters.places a.lo k.v a.numbers.now) + n) c.count_stars-stored.ensures
     ∙ stars-more a.parameters.places a.lo k.v a.numbers.now
 
@@ -164,18 +164,18 @@ overflow_add-stored c =
     let a = s.args in
     let p = s.requires.settleable in
     let v = (turn d).loop-v.v in
-    let above : (a.lo + (v + 1)) * a.parameters.places ≤ (a.lo + a.count) * a.parameters.places = mul-le-mul_right a.parameters.places (omega (arith, (turn d).loop-v-test.taken)) in
+    let above : (a.lo + (v + 1)) * a.parameters.places ≤ (a.lo + a.count) * a.parameters.places = mul-le-mul_right a.parameters.places (omega (arith, (turn d).loop-v-test.true)) in
     record {
       fits =
           omega (
             arith,
             stored_next c.before,
-            stars-few a.parameters.places a.lo (v + 1) a.numbers.now (omega (arith, above, s.requires.places_in_bounds)) (omega (arith, (turn d).loop-v-test.taken, p.pages)) (limits a.parameters p.valid).places_most,
+            stars-few a.parameters.places a.lo (v + 1) a.numbers.now (omega (arith, above, s.requires.places_in_bounds)) (omega (arith, (turn d).loop-v-test.true, p.pages)) (limits a.parameters p.valid).places_most,
           );
     }
 
 pub overflow_add-v : goal.overflow_add-v
-overflow_add-v c = let d = planned c.before.before in record { fits = omega (arith, (turn d).loop-v-test.taken, (begun d).requires.settleable.pages) }
+overflow_add-v c = let d = planned c.before.before in record { fits = omega (arith, (turn d).loop-v-test.true, (begun d).requires.settleable.pages) }
 
 pub overflow_add-from : goal.overflow_add-from
 overflow_add-from c =
@@ -199,7 +199,7 @@ returns-then-from-stored c =
     changed _ _ _ _ _ _ _ _ s.requires.settleable.grouped_are _ _ _ _ _ (next d) s.args.numbers.now _ (stored_next c.before.before) (λ h. c.if-from-stored.true)
 
 pub loop-v-smaller : goal.loop-v-smaller
-loop-v-smaller c = omega (arith, (turn (planned c.before.before.before)).loop-test.taken)
+loop-v-smaller c = omega (arith, (turn (planned c.before.before.before)).loop-v-test.true)
 
 pub loop-v-preserved : goal.loop-v-preserved
 loop-v-preserved c = (next (planned c.before.before.before), stored_next c.before.before)

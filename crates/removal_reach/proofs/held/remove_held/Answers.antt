@@ -23,15 +23,6 @@ use Rattle.removal_reach.proofs.held.remove_held.Goals.{After-carry_out, After-c
 abbrev Then-separators-first : Type 0
 Then-separators-first = lts.Then1 tie.the-claims reads.Pre reads.Post tie.handed_clauses
 
-abbrev After-slice_known-then-separators-first-7-1 : Type 0
-After-slice_known-then-separators-first-7-1 = lts.After-slice_known15 tie.the-claims reads.Pre reads.Post tie.handed_clauses
-
-abbrev After-decide_removal-decision : Type 0
-After-decide_removal-decision = lts.After-decide_removal tie.the-claims reads.Pre reads.Post tie.handed_clauses
-
-abbrev After-outcome_of : Type 0
-After-outcome_of = lts.After-outcome_of tie.the-claims reads.Pre reads.Post tie.handed_clauses
-
 abbrev file : Start → File
 file s = lent s.args.separators.now s.args.numbers.now s.args.words.now s.args.owners.now
 
@@ -68,9 +59,6 @@ carry_out-requires c =
       feasible = (decided d s.args.pool.now s.args.separators.now).feasible;
     }
 
-abbrev after-carry_out : After-slice_known-then-separators-first-7-1 → After-carry_out
-after-carry_out c = c.before.before.before.before.before.before.before.before.before.before.before.before.before.before
-
 pub returns-then-separators-first : goal.returns-then-separators-first
 returns-then-separators-first c =
     let d = c.before.before.before.before.before.before.before.before.before.before.before.before.before.before.before.before.before.before.before.before.before.before.before.before.before in
@@ -101,15 +89,9 @@ carry_out-requires-2 c =
     let planned = c.decide_removal-decision in record {
       parameters_value = e.homing.valid;
       sized = e.sized;
-      pooled = record { of_numbers = planned.auto.1.1.1.1.1.1.0 ∙ pools.of_numbers; of_words_lem = planned.auto.1.1.1.1.1.1.1.0 ∙ pools.of_words_lem; of_owners = pools.of_owners };
+      pooled = record { of_numbers = planned.auto.pool ∙ pools.of_numbers; of_words_lem = planned.auto.waiting ∙ pools.of_words_lem; of_owners = pools.of_owners };
       feasible = planned.ensures.feasible;
     }
-
-abbrev after-carry_out2 : After-outcome_of → After-carry_out-2
-after-carry_out2 c = c.before.before.before.before.before.before.before.before.before.before.before.before.before.before.before
-
-abbrev after-decide_removal : After-carry_out-2 → After-decide_removal-decision
-after-decide_removal c = c.before.before.before.before.before.before.before.before.before.before.before.before.before.before
 
 pub returns : goal.returns
 returns c =

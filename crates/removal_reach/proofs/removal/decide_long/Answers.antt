@@ -17,17 +17,11 @@ use Rattle.removal_reach.proofs.removal.decide_long.Reads as reads
 use Rattle.removal_reach.proofs.removal.decide_long.Goals as goal
 use Rattle.removal_reach.proofs.removal.decide_long.Goals.{Start}
 
-abbrev After-survey_pages-bad : Type 0
-After-survey_pages-bad = lts.After-survey_pages tie.the-claims reads.Pre reads.Post tie.handed_clauses
-
 abbrev Else-bad-stop : Type 0
 Else-bad-stop = lts.Else1 tie.the-claims reads.Pre reads.Post tie.handed_clauses
 
 abbrev After-plan_changed-changed : Type 0
 After-plan_changed-changed = lts.After-plan_changed tie.the-claims reads.Pre reads.Post tie.handed_clauses
-
-abbrev Then-first_raisable-stop : Type 0
-Then-first_raisable-stop = lts.Then2 tie.the-claims reads.Pre reads.Post tie.handed_clauses
 
 abbrev file : Start → File
 file s = lent s.args.separators.now s.args.numbers.now s.args.words.now s.args.owners.now
@@ -41,7 +35,7 @@ abbrev begun : Else-bad-stop → Start
 begun c = c.before.before.before.before.before.before.before.before.before.before.before.before.before.before
 
 abbrev homes : Else-bad-stop → List ℕ
-homes c = c.survey_pages-bad.new.1.1.1.1.1.1.0
+homes c = c.survey_pages-bad.new.homes
 
 homes-long : (c : Else-bad-stop) → length (homes c) ≡ (begun c).args.geometry.parameters.pages * (begun c).args.geometry.parameters.places
 homes-long c = c.survey_pages-bad.auto.homes ∙ (begun c).requires.pool_len.0
@@ -52,8 +46,8 @@ ready c =
     let s = begun c in
     let pre = s.requires in
     let surveyed = c.survey_pages-bad in
-    removal_plannable _ _ _ _ _ _ (reach s) pre.removes.ready.homing.valid pre.removes.ready.sized _ surveyed.ensures.0 c.if-bad-stop.false _ _ pre.pool_len.0
-    (homes-long c) surveyed.ensures.1 _ _ pre.pool_len.1 pre.pool_len.1
+    removal_plannable _ _ _ _ _ _ (reach s) pre.removes.ready.homing.valid pre.removes.ready.sized _ surveyed.ensures.value c.if-bad-stop.false _ _ pre.pool_len.0
+    (homes-long c) surveyed.ensures.homes_after _ _ pre.pool_len.1 pre.pool_len.1
 
 pub overflow_add-stop : goal.overflow_add-stop
 overflow_add-stop c = let s = c.before.before.before.before.before.before.before.before.before.before in omega (arith, (reach s).inside, (limits _ s.requires.removes.ready.homing.valid).pages_most)
@@ -126,16 +120,10 @@ first_raisable-requires c =
         low = omega (arith, d.plan_changed-changed.ensures.high, R.order);
         high = omega (arith, R.inside);
         kept =
-            rest-kept _ _ _ _ _ _ R pre.removes.ready.homing.valid pre.removes.ready.sized _ surveyed.ensures.0 (told d).if-bad-stop.false _ _ pre.pool_len.0 (homes-long (told d)) surveyed.ensures.1
+            rest-kept _ _ _ _ _ _ R pre.removes.ready.homing.valid pre.removes.ready.sized _ surveyed.ensures.value (told d).if-bad-stop.false _ _ pre.pool_len.0 (homes-long (told d)) surveyed.ensures.homes_after
             _ _ _ _ d.plan_changed-changed.ensures;
       };
     }
-
-abbrev after-plan_changed : Then-first_raisable-stop → After-plan_changed-changed
-after-plan_changed c = c.before.before.before.before.before.before.before.before
-
-abbrev after-survey_pages : After-plan_changed-changed → After-survey_pages-bad
-after-survey_pages c = c.before.before.before.before.before.before.before
 
 pub returns-then-first_raisable-stop : goal.returns-then-first_raisable-stop
 returns-then-first_raisable-stop c =
@@ -144,10 +132,10 @@ returns-then-first_raisable-stop c =
     let pre = s.requires in
     let surveyed = (told d).survey_pages-bad in
     let C = d.plan_changed-changed.ensures in
-    removal_decided _ _ _ _ _ _ (reach s) pre.removes.ready.homing.valid pre.removes.ready.sized _ surveyed.ensures.0 (told d).if-bad-stop.false _ _ pre.pool_len.0 (homes-long (told d)) surveyed.ensures.1
-    s.args.star.page _ s.args.planned.now _ _ pre.pages_in_bounds (omega (arith, pre.pages_in_bounds, d.plan_changed-changed.auto)) C
+    removal_decided _ _ _ _ _ _ (reach s) pre.removes.ready.homing.valid pre.removes.ready.sized _ surveyed.ensures.value (told d).if-bad-stop.false _ _ pre.pool_len.0 (homes-long (told d)) surveyed.ensures.homes_after
+    s.args.star.page _ s.args.planned.now _ _ pre.pages_in_bounds (omega (arith, pre.pages_in_bounds, d.plan_changed-changed.auto.planned)) C
     (λ h.
-    rest-ruled _ _ _ _ _ _ (reach s) pre.removes.ready.homing.valid pre.removes.ready.sized _ surveyed.ensures.0 (told d).if-bad-stop.false _ _ pre.pool_len.0 (homes-long (told d)) surveyed.ensures.1
+    rest-ruled _ _ _ _ _ _ (reach s) pre.removes.ready.homing.valid pre.removes.ready.sized _ surveyed.ensures.value (told d).if-bad-stop.false _ _ pre.pool_len.0 (homes-long (told d)) surveyed.ensures.homes_after
     d.plan_changed-changed.result _ C.high c.first_raisable.ensures c.if-first_raisable-stop.true)
 
 pub decide_whole-requires : goal.decide_whole-requires
@@ -156,7 +144,7 @@ decide_whole-requires c =
     let s = start d in record {
       removes = s.requires.removes;
       pool_len = (d.plan_changed-changed.auto.pool ∙ homes-long (told d), d.plan_changed-changed.auto.waiting ∙ s.requires.pool_len.1);
-      pages_in_bounds = omega (arith, s.requires.pages_in_bounds, d.plan_changed-changed.auto);
+      pages_in_bounds = omega (arith, s.requires.pages_in_bounds, d.plan_changed-changed.auto.planned);
       last_value = s.requires.last_value;
       known = record { sound = λ h. absurd (omega arith); kept = λ h. absurd (omega arith) };
     }

@@ -14,18 +14,6 @@ use Rattle.removal_reach.proofs.removal.decide_removal.Goals.{Start}
 abbrev After-stretch_end-last : Type 0
 After-stretch_end-last = lts.After-stretch_end tie.the-claims reads.Pre reads.Post tie.handed_clauses
 
-abbrev After-decide_whole : Type 0
-After-decide_whole = lts.After-decide_whole tie.the-claims reads.Pre reads.Post tie.handed_clauses
-
-abbrev After-slice_known-then-last-from-lt8-3-1 : Type 0
-After-slice_known-then-last-from-lt8-3-1 = lts.After-slice_known6 tie.the-claims reads.Pre reads.Post tie.handed_clauses
-
-abbrev After-decide_long : Type 0
-After-decide_long = lts.After-decide_long tie.the-claims reads.Pre reads.Post tie.handed_clauses
-
-abbrev After-slice_known-6-1 : Type 0
-After-slice_known-6-1 = lts.After-slice_known9 tie.the-claims reads.Pre reads.Post tie.handed_clauses
-
 abbrev file : Start → File
 file s = lent s.args.separators.now s.args.numbers.now s.args.words.now s.args.owners.now
 
@@ -48,15 +36,12 @@ decide_whole-requires c =
     let d = c.before.before.before.before.before in
     let pre = (start d).requires in
     record {
-      removes = pre.0;
-      pool_len = pre.1.0;
-      pages_in_bounds = pre.1.1.0;
+      removes = pre.removes;
+      pool_len = pre.pool_len;
+      pages_in_bounds = pre.pages_in_bounds;
       last_value = ended d;
-      known = pre.1.1.1;
+      known = pre.known;
     }
-
-abbrev after-decide_whole : After-slice_known-then-last-from-lt8-3-1 → After-decide_whole
-after-decide_whole c = c.before.before.before.before.before.before
 
 pub returns-then-last-from-lt8 : goal.returns-then-last-from-lt8
 returns-then-last-from-lt8 c = c.decide_whole.ensures
@@ -66,15 +51,12 @@ decide_long-requires c =
     let d = c.before.before.before.before.before in
     let pre = (start d).requires in
     record {
-      removes = pre.0;
-      pool_len = pre.1.0;
-      pages_in_bounds = pre.1.1.0;
+      removes = pre.removes;
+      pool_len = pre.pool_len;
+      pages_in_bounds = pre.pages_in_bounds;
       last_value = ended d;
-      known = pre.1.1.1;
+      known = pre.known;
     }
-
-abbrev after-decide_long : After-slice_known-6-1 → After-decide_long
-after-decide_long c = c.before.before.before.before.before.before
 
 pub returns : goal.returns
 returns c = c.decide_long.ensures

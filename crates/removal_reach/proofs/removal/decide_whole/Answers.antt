@@ -16,17 +16,8 @@ use Rattle.removal_reach.proofs.removal.decide_whole.Reads as reads
 use Rattle.removal_reach.proofs.removal.decide_whole.Goals as goal
 use Rattle.removal_reach.proofs.removal.decide_whole.Goals.{Start}
 
-abbrev After-survey_pages-bad : Type 0
-After-survey_pages-bad = lts.After-survey_pages tie.the-claims reads.Pre reads.Post tie.handed_clauses
-
 abbrev Else-bad-stop : Type 0
 Else-bad-stop = lts.Else1 tie.the-claims reads.Pre reads.Post tie.handed_clauses
-
-abbrev After-plan : Type 0
-After-plan = lts.After-plan tie.the-claims reads.Pre reads.Post tie.handed_clauses
-
-abbrev After-slice_known-7-1 : Type 0
-After-slice_known-7-1 = lts.After-slice_known7 tie.the-claims reads.Pre reads.Post tie.handed_clauses
 
 abbrev file : Start → File
 file s = lent s.args.separators.now s.args.numbers.now s.args.words.now s.args.owners.now
@@ -40,13 +31,13 @@ abbrev begun : Else-bad-stop → Start
 begun c = c.before.before.before.before.before.before.before.before.before.before.before.before.before
 
 ready : (c : Else-bad-stop)
-    → StretchReady (begun c).args.geometry.parameters (begun c).args.star.home ((begun c).args.last + 1 - (begun c).args.star.home) (file (begun c)) c.survey_pages-bad.new.1.1.1.1.1.1.0 (begun c).args.waiting.now (begun c).args.waiting.now
+    → StretchReady (begun c).args.geometry.parameters (begun c).args.star.home ((begun c).args.last + 1 - (begun c).args.star.home) (file (begun c)) c.survey_pages-bad.new.homes (begun c).args.waiting.now (begun c).args.waiting.now
 ready c =
     let s = begun c in
     let pre = s.requires in
     let surveyed = c.survey_pages-bad in
-    removal_plannable _ _ _ _ _ _ (reach s) pre.removes.ready.homing.valid pre.removes.ready.sized _ surveyed.ensures.0 c.if-bad-stop.false _ _ pre.pool_len.0
-    (surveyed.auto.1.1.1.1.1.1.0 ∙ pre.pool_len.0) surveyed.ensures.1 _ _ pre.pool_len.1 pre.pool_len.1
+    removal_plannable _ _ _ _ _ _ (reach s) pre.removes.ready.homing.valid pre.removes.ready.sized _ surveyed.ensures.value c.if-bad-stop.false _ _ pre.pool_len.0
+    (surveyed.auto.homes ∙ pre.pool_len.0) surveyed.ensures.homes_after _ _ pre.pool_len.1 pre.pool_len.1
 
 pub overflow_add-stop : goal.overflow_add-stop
 overflow_add-stop c = let s = c.before.before.before.before.before.before.before.before.before in omega (arith, (reach s).inside, (limits _ s.requires.removes.ready.homing.valid).pages_most)
@@ -86,12 +77,6 @@ plan-requires c =
       waiting_value = refl;
     }
 
-abbrev after-plan : After-slice_known-7-1 → After-plan
-after-plan c = c.before.before.before.before.before.before
-
-abbrev after-survey_pages : After-plan → After-survey_pages-bad
-after-survey_pages c = c.before.before.before.before.before.before.before.before
-
 pub returns : goal.returns
 returns c =
     let d = c.before.before.before.before.before.before.before.before.before.before.before.before in
@@ -99,6 +84,6 @@ returns c =
     let pre = s.requires in
     let surveyed = d.survey_pages-bad in
     let plan = c.plan in
-    removal_decided _ _ _ _ _ _ (reach s) pre.removes.ready.homing.valid pre.removes.ready.sized _ surveyed.ensures.0 d.if-bad-stop.false _ _ pre.pool_len.0
-    (surveyed.auto.1.1.1.1.1.1.0 ∙ pre.pool_len.0) surveyed.ensures.1 s.args.star.page _ s.args.planned.now _ _ pre.pages_in_bounds (omega (arith, pre.pages_in_bounds, plan.auto))
+    removal_decided _ _ _ _ _ _ (reach s) pre.removes.ready.homing.valid pre.removes.ready.sized _ surveyed.ensures.value d.if-bad-stop.false _ _ pre.pool_len.0
+    (surveyed.auto.homes ∙ pre.pool_len.0) surveyed.ensures.homes_after s.args.star.page _ s.args.planned.now _ _ pre.pages_in_bounds (omega (arith, pre.pages_in_bounds, plan.auto.planned))
     (whole-changed _ _ _ _ _ _ _ _ _ _ _ plan.ensures) (λ h. absurd (omega arith))

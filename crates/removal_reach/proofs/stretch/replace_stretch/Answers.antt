@@ -11,12 +11,6 @@ use Rattle.removal_reach.proofs.stretch.replace_stretch.Goals.{After-apply, Star
 abbrev After-planned-1 : Type 0
 After-planned-1 = lts.After-planned tie.the-claims reads.Pre reads.Post tie.handed_clauses
 
-abbrev After-plan-left : Type 0
-After-plan-left = lts.After-plan tie.the-claims reads.Pre reads.Post tie.handed_clauses
-
-abbrev After-slice_known-16-1 : Type 0
-After-slice_known-16-1 = lts.After-slice_known16 tie.the-claims reads.Pre reads.Post tie.handed_clauses
-
 abbrev start : After-planned-1 → Start
 start c = c.before.before.before.before.before.before.before.before.before.before
 
@@ -46,12 +40,6 @@ returns-then-left-ne0 c =
       owners_value = kept.1;
       pool_unchanged = stretch-behind _ _ _ _ _ _ _ L _ _ _ _ _ _ planned.plan-left.ensures;
     }
-
-abbrev after-apply : After-slice_known-16-1 → After-apply
-after-apply c = c.before.before.before.before.before.before.before.before.before.before.before.before.before.before
-
-abbrev after-plan : After-apply → After-plan-left
-after-plan c = c.before.before.before.before.before.before.before.before.before.before.before.before.before.before.before.before
 
 pub returns : goal.returns
 returns c =

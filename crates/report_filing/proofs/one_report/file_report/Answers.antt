@@ -46,7 +46,7 @@ file_held-requires c =
     let numbered = passed _ _ c.number_valid.ensures (ap not c.if-not-number_valid.false) in
     let positioned = passed _ _ c.position_fits.ensures (ap not c.if-not-position_fits.false) in
     let opened = not-false _ c.if-not-named.false in
-    let sought : Sought c.args.geometry.parameters c.args.geometry.growth (lent c.args.separators.now c.args.numbers.now c.args.words.now c.args.owners.now) c.find_kept-named.new.poolnumbers c.args.report c.find_kept-named.result =
+    let sought : Sought c.args.geometry.parameters c.args.geometry.growth (lent c.args.separators.now c.args.numbers.now c.args.words.now c.args.owners.now) c.find_kept-named.new.pool c.args.report c.find_kept-named.result =
       record {
         number = numbered;
         position = positioned;
@@ -56,7 +56,7 @@ file_held-requires c =
       } in
     record {
       ready = c.requires.ready;
-      pooled = record { of_numbers = c.find_kept-named.auto.poolnumbers ∙ c.requires.pooled.of_numbers; of_words_lem = c.requires.pooled.of_words_lem; of_owners = c.requires.pooled.of_owners };
+      pooled = record { of_numbers = c.find_kept-named.auto.pool ∙ c.requires.pooled.of_numbers; of_words_lem = c.requires.pooled.of_words_lem; of_owners = c.requires.pooled.of_owners };
       sought = sought;
       held_value = c.if-named.true;
     }
@@ -67,7 +67,7 @@ returns-then-report-ne0 c pool fits =
     let numbered = passed _ _ c.number_valid.ensures (ap not c.if-not-number_valid.false) in
     let positioned = passed _ _ c.position_fits.ensures (ap not c.if-not-position_fits.false) in
     let opened = not-false _ c.if-not-named.false in
-    let sought : Sought c.args.geometry.parameters c.args.geometry.growth (lent c.args.separators.now c.args.numbers.now c.args.words.now c.args.owners.now) c.find_kept-named.new.poolnumbers c.args.report c.find_kept-named.result =
+    let sought : Sought c.args.geometry.parameters c.args.geometry.growth (lent c.args.separators.now c.args.numbers.now c.args.words.now c.args.owners.now) c.find_kept-named.new.pool c.args.report c.find_kept-named.result =
       record {
         number = numbered;
         position = positioned;
@@ -82,7 +82,7 @@ file_new-requires c =
     let numbered = passed _ _ c.number_valid.ensures (ap not c.if-not-number_valid.false) in
     let positioned = passed _ _ c.position_fits.ensures (ap not c.if-not-position_fits.false) in
     let opened = not-false _ c.if-not-named.false in
-    let sought : Sought c.args.geometry.parameters c.args.geometry.growth (lent c.args.separators.now c.args.numbers.now c.args.words.now c.args.owners.now) c.find_kept-named.new.poolnumbers c.args.report c.find_kept-named.result =
+    let sought : Sought c.args.geometry.parameters c.args.geometry.growth (lent c.args.separators.now c.args.numbers.now c.args.words.now c.args.owners.now) c.find_kept-named.new.pool c.args.report c.find_kept-named.result =
       record {
         number = numbered;
         position = positioned;
@@ -92,7 +92,7 @@ file_new-requires c =
       } in
     record {
       ready = c.requires.ready;
-      pooled = record { of_numbers = c.find_kept-named.auto.poolnumbers ∙ c.requires.pooled.of_numbers; of_words_lem = c.requires.pooled.of_words_lem; of_owners = c.requires.pooled.of_owners };
+      pooled = record { of_numbers = c.find_kept-named.auto.pool ∙ c.requires.pooled.of_numbers; of_words_lem = c.requires.pooled.of_words_lem; of_owners = c.requires.pooled.of_owners };
       sought = sought;
       held_value = (c.if-named.false, c.if-report-ne0.false);
     }

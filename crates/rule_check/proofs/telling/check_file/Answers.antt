@@ -78,11 +78,11 @@ pub first_raisable-requires : goal.first_raisable-requires
 first_raisable-requires c =
     let e = c.before in
     let pre = (start e).requires in record {
-      parameters_value = pre.0.homing.valid;
+      parameters_value = pre.ready.homing.valid;
       homed = record {
-        separators = pre.0.sized.of_separators;
-        numbers = pre.0.sized.of_numbers;
-        homes = e.survey_pages-unsound.auto.homes ∙ pre.1.of_numbers;
+        separators = pre.ready.sized.of_separators;
+        numbers = pre.ready.sized.of_numbers;
+        homes = e.survey_pages-unsound.auto.homes ∙ pre.pooled.of_numbers;
         low = omega arith;
         high = le_refl _;
         kept = λ q a h. ap (part (start e).args.geometry.parameters.places q) (e.survey_pages-unsound.ensures.homes_after (all_of e)) ∙ (page-known e q a h).kept h;
@@ -101,11 +101,11 @@ pub compare_planned-spot-requires : goal.compare_planned-spot-requires
 compare_planned-spot-requires c =
     let e = c.before.before.before.before.before.before in
     let pre = (start e).requires in record {
-      ready = ready refl pre.0.homing.valid pre.0.homing.growth pre.0.sized;
+      ready = ready refl pre.ready.homing.valid pre.ready.homing.growth pre.ready.sized;
       pages_value = none-unsound e;
       pool_value = e.survey_pages-unsound.ensures.homes_after (all_of e) ∙ homed e;
-      waiting_len = pre.1.of_words_lem;
-      poolowners_len = pre.1.of_owners;
+      waiting_len = pre.pooled.of_words_lem;
+      poolowners_len = pre.pooled.of_owners;
     }
 
 -- the pages were sound before the comparison

@@ -46,8 +46,8 @@ fetch-requires c =
     let s = c.before.before.before.before.before.before.before.before.before.before.before.before.before.before.before.before.before.before.before.before.before.before.before in
     let k = c.plan.auto in
     record {
-      in_bounds = omega (arith, k.1.1.0, pool-long s);
-      in_bounds_2 = omega (arith, k.1.1.1.0, s.requires.waiting_len);
+      in_bounds = omega (arith, k.pool, pool-long s);
+      in_bounds_2 = omega (arith, k.waiting, s.requires.waiting_len);
       in_bounds_3 = omega (arith, s.requires.poolowners_len);
     }
 
@@ -57,10 +57,10 @@ compare-requires c =
     let l = limits _ s.requires.ready.homing.valid in
     let k = c.plan.auto in
     let n = c.fetch.auto in record {
-      pages_in_bounds = (omega (arith, s.requires.ready.sized.of_separators), omega (arith, l.pages_most, k.1.1.1.1.0));
-      places_in_bounds = (omega (arith, s.requires.ready.sized.of_numbers), omega (arith, n.1.1.1.0, k.1.1.0, pool-long s));
-      places_in_bounds_2 = (omega (arith, s.requires.ready.sized.of_words_lem), omega (arith, n.1.1.1.1.0, k.1.1.1.0, s.requires.waiting_len));
-      places_in_bounds_3 = (omega (arith, s.requires.ready.sized.of_owners), omega (arith, n.1.1.1.1.1.0, s.requires.poolowners_len));
+      pages_in_bounds = (omega (arith, s.requires.ready.sized.of_separators), omega (arith, l.pages_most, k.planned));
+      places_in_bounds = (omega (arith, s.requires.ready.sized.of_numbers), omega (arith, n.pool, k.pool, pool-long s));
+      places_in_bounds_2 = (omega (arith, s.requires.ready.sized.of_words_lem), omega (arith, n.waiting, k.waiting, s.requires.waiting_len));
+      places_in_bounds_3 = (omega (arith, s.requires.ready.sized.of_owners), omega (arith, n.poolowners, s.requires.poolowners_len));
     }
 
 pub returns : goal.returns
@@ -73,12 +73,12 @@ returns c =
       place_value = c.compare.ensures.place_value
           ∙ spot_ruled p _ (file s) s.requires.ready.homing.valid s.requires.ready.homing.growth s.requires.ready.sized s.requires.pages_value _ s.requires.pool_value _ _ _ _ _ _ _
           (planned-ruled p _ (file s) s.requires.ready.homing.valid s.requires.ready.homing.growth s.requires.ready.sized s.requires.pages_value _ s.requires.pool_value _ _ _ _ _ l.pages_most planned.ensures)
-          (planned.auto.1.1.0 ∙ pool-long s)
-          (planned.auto.1.1.1.0 ∙ s.requires.waiting_len)
+          (planned.auto.pool ∙ pool-long s)
+          (planned.auto.waiting ∙ s.requires.waiting_len)
           s.requires.poolowners_len
-          (omega (arith, l.pages_most, planned.auto.1.1.1.1.0))
-          fetched.ensures.0
-          fetched.ensures.1.0
-          fetched.ensures.1.1;
+          (omega (arith, l.pages_most, planned.auto.planned))
+          fetched.ensures.pool_after
+          fetched.ensures.waiting_after
+          fetched.ensures.poolowners_after;
       place_le_places = c.compare.ensures.place_le_places;
     }
