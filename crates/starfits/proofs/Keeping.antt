@@ -1,18 +1,21 @@
 -- Laws of what is kept of a table, and of the parts in which its lines are written.
-use Prim.Native.Nat.{ℕ, zero, suc, ◌≤◌, ◌<◌}
+use Prim.Native.Nat.{ℕ, zero, suc, ◌+◌, ◌≤◌, ◌<◌}
 use native.Mathlib.Omega.{arith}
 use native.Mathlib.Decide.{dec_lt}
 use mathlib.Core.List.{List, [], ◌∷◌, ◌++◌, append-nil, append_assoc}
-use mathlib.Core.Path.{◌≡◌, refl, sym, ap, ◌∙◌}
+use mathlib.Core.Path.{◌≡◌, sym, ap, subst, ◌∙◌}
+use mathlib.Core.Bool.{true, false}
+use native.Mathlib.Numerals.{add-one}
 use lib.ListN.{length, take}
 use lib.Seq.{length-take-le, take_all}
 use Rattle.core.specs.declared.option.Option.{Option}
 use Rattle.std.specs.Prelude.{None, Some, IfSome}
-use Rattle.std.specs.Io.KnownBytes.{Consumes, IsAtEnd}
-use Rattle.std.proofs.KnownBytes.{Consumes-nil, Consumes-trans}
-use Rattle.catalogues.specs.Listing.{listed, kept_table, part_of, in_parts}
+use Rattle.std.specs.Io.KnownBytes.{Consumes, Appends, IsAtEnd}
+use Rattle.std.proofs.KnownBytes.{Consumes-nil, Consumes-trans, Appends-nil, Appends-trans}
+use Rattle.catalogues.specs.Listing.{is_table, listed, kept_table, part_of, in_parts, converted}
+use Rattle.catalogues.specs.Runs.{from_lines}
 use Rattle.catalogues.proofs.Listed.{parts_listed, kept-listed, kept_then}
-use Rattle.catalogues.proofs.Program.{nothing-more, kept_full}
+use Rattle.catalogues.proofs.Program.{nothing-more, kept_full, same_kind, table_kind}
 use Rattle.starfits.specs.Keeping.{Keeps}
 
 -- the lines of a table's first parts
@@ -20,20 +23,27 @@ unfoldable pub parts_to : ℕ → List ℕ → List ℕ
 parts_to zero given = []
 parts_to (suc k) given = parts_to k given ++ part_of k given
 
-pub parts_none : (given : List ℕ) → parts_to 0 given ≡ []
+pub parts_begun : (given : List ℕ) (held : Option (List ℕ)) → Appends held held (parts_to 0 given)
 unfolding parts_to
-parts_none given = refl
+parts_begun given held = Appends-nil held
 
-pub parts_more : (k : ℕ) (given : List ℕ) → parts_to (suc k) given ≡ parts_to k given ++ part_of k given
+pub parts_grown :
+    (k : ℕ) (given : List ℕ) (held mid held_then : Option (List ℕ)) → Appends held mid (parts_to k given) →
+    Appends mid held_then (part_of k given) → Appends held held_then (parts_to (k + 1) given)
 unfolding parts_to
-parts_more k given = refl
+parts_grown k given held mid held_then a b = rw (add-one k) (Appends-trans held mid held_then _ _ a b)
 
-pub all_parts : (given : List ℕ) → parts_to 4 given ≡ listed given
+all_parts : (given : List ℕ) → parts_to 4 given ≡ listed given
 unfolding parts_to in_parts
 all_parts given =
     append_assoc (part_of 0 given ++ part_of 1 given) (part_of 2 given) (part_of 3 given)
     ∙ append_assoc (part_of 0 given) (part_of 1 given) (part_of 2 given ++ part_of 3 given)
     ∙ parts_listed given
+
+pub parts_ended :
+    (k : ℕ) (given : List ℕ) (held held_then : Option (List ℕ)) → Appends held held_then (parts_to k given) → k ≡ 4 →
+    Appends held held_then (listed given)
+parts_ended k given held held_then a e = subst (Appends held held_then) (ap (λ (n : ℕ). parts_to n given) e ∙ all_parts given) a
 
 -- few enough bytes are kept whole
 few_kept : (l : List ℕ) (n : ℕ) → n ≤ 400321 → n ≤ length l → kept_table (take n l) ≡ take n l
@@ -114,3 +124,38 @@ pub listed_all :
 listed_all given given_then first begun n None e h = tt
 listed_all given given_then first begun n (Some rest) e h =
     ap listed (h ∙ ap (λ (l : List ℕ). kept_table (l ++ rest)) e ∙ kept_then first rest) ∙ kept-listed (first ++ rest)
+
+pub listed_after :
+    (left held held_then : Option (List ℕ)) (text first : List ℕ) → IfSome left (λ rest. listed text ≡ listed (first ++ rest)) →
+    Appends held held_then (listed text) → IfSome left (λ rest. Appends held held_then (listed (first ++ rest)))
+listed_after None held held_then text first e w = tt
+listed_after (Some rest) held held_then text first e w = subst (Appends held held_then) e w
+
+-- the first block tells whether the input is a table
+pub table_input :
+    (left mid held held_then : Option (List ℕ)) (block : List ℕ) → Consumes left mid block → is_table block ≡ true →
+    IfSome mid (λ rest. Appends held held_then (listed (block ++ rest))) → IfSome left (λ input. Appends held held_then (converted input))
+unfolding converted
+table_input None mid held held_then block c t h = tt
+table_input (Some xs) None held held_then block c t h = absurd c
+table_input (Some xs) (Some ys) held held_then block c t h = rw (c, table_kind block ys t) h
+
+pub lines_input :
+    (left mid held held_then : Option (List ℕ)) (block : List ℕ) → Consumes left mid block → (block ≡ [] → IsAtEnd mid) →
+    is_table block ≡ false → IfSome mid (λ rest. Appends held held_then (from_lines (block ++ rest))) →
+    IfSome left (λ input. Appends held held_then (converted input))
+unfolding converted
+lines_input None mid held held_then block c ends t h = tt
+lines_input (Some xs) None held held_then block c ends t h = absurd c
+lines_input (Some xs) (Some ys) held held_then block c ends t h =
+    let kind : is_table (block ++ ys) ≡ false =
+    same_kind block ys (λ none. ap (λ (l : List ℕ). l ++ ys) none ∙ ends none) ∙ t in
+    rw (c, kind) h
+
+-- a read that gives no byte finds the end
+pub ended :
+    (n : ℕ) (block : List ℕ) (left_then : Option (List ℕ)) → n ≤ length block → 0 < length block →
+    (n ≡ 0 → 0 < length block → IsAtEnd left_then) → take n block ≡ [] → IsAtEnd left_then
+ended n block left_then within some h none =
+    let bytes : length (take n block) ≡ 0 = ap length none in
+    h (omega (arith, bytes, length-take-le n block within)) some

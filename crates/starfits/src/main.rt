@@ -26,9 +26,11 @@ fn convert<R: Read, W: Write>(reader: &mut R, writer: &mut W) -> io::Result<()>
     let mut block = [0u8; 4096];
     let n = reader.read(&mut block)?;
     if catalogues::begins_table(&block[..n]) {
-        return list_table(&block[..n], reader, writer);
+        list_table(&block[..n], reader, writer)?;
+        return Ok(());
     }
-    make_table(&block[..n], reader, writer)
+    make_table(&block[..n], reader, writer)?;
+    Ok(())
 }
 
 fn list_table<R: Read, W: Write>(first: &[u8], reader: &mut R, writer: &mut W) -> io::Result<()>
@@ -38,7 +40,8 @@ fn list_table<R: Read, W: Write>(first: &[u8], reader: &mut R, writer: &mut W) -
     let mut given = table_space();
     let begun = catalogues::keep(&mut given, 0, first);
     let length = keep_all(&mut given, begun, reader)?;
-    list_all(&given[..length], writer)
+    list_all(&given[..length], writer)?;
+    Ok(())
 }
 
 fn list_all<W: Write>(given: &[u8], writer: &mut W) -> io::Result<()>

@@ -27,9 +27,6 @@ fn main(rt: HostRuntime) -> io::Result<()> {
 fn answer_all<R: Read, W: Write>(reader: &mut R, writer: &mut W) -> io::Result<()>
     ensures { OnOk result (IfSome (R.remaining reader.old)
         (λ input. Appends (W.contents writer.old) (W.contents writer.new)
-        (put_out answering new_file (map command_of (lines_of input))))) } -> io::Result<()>
-    ensures { OnOk result (IfSome (R.remaining reader.old)
-        (λ input. Appends (W.contents writer.old) (W.contents writer.new)
         (put_out answering new_file (map command_of (lines_of input))))) }
 {
     let session = read_all(sessions::start(), reader, writer)?;

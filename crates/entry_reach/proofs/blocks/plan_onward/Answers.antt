@@ -33,9 +33,6 @@ At-loop-page = lts.At-loop tie.the-claims reads.Pre reads.Post goal.the-invarian
 abbrev After-plan_block : Type 0
 After-plan_block = lts.After-plan_block tie.the-claims reads.Pre reads.Post goal.the-invariant-loop-page goal.the-decreases-loop-page tie.handed_clauses
 
-abbrev Start : Type 0
-Start = Start
-
 abbrev file : Start → File
 file s = lent s.args.separators.now s.args.numbers.now s.args.words.now s.args.owners.now
 
@@ -53,13 +50,13 @@ abbrev head : Place → At-loop-page
 head x = x.before.before.before.before
 
 abbrev pool' : Place → List ℕ
-pool' x = x.plan_block.last.1.1.1.1.1.1.0
+pool' x = x.plan_block.new.pool
 
 abbrev waiting' : Place → List ℕ
-waiting' x = x.plan_block.last.1.1.1.1.1.1.1.0
+waiting' x = x.plan_block.new.waiting
 
 abbrev planned' : Place → List ℕ
-planned' x = x.plan_block.last.1.1.1.1.1.1.1.1.0
+planned' x = x.plan_block.new.planned
 
 told : (x : Place) (b : Block) → x.plan_block.result ≡ b
     → BlockPlanned (start x).args.geometry.parameters (start x).args.geometry.growth (file (start x)) (head x).loop-page.block.first (take (head x).loop-page.carried (head x).loop-page.waiting)
@@ -150,37 +147,37 @@ plan_block-requires c =
 pub returns-in-Unsound : goal.returns-in-Unsound
 returns-in-Unsound c =
     λ k page number unheld first.
-    let x = c.before.before.before.before.before.before.before.before.before.before in
+    let x = c.before.before.before.before.before.before.before.before in
     let w = c.in-Unsound in
     (unsound-here x k page number unheld first w.page w.is, λ word owner last e. absurd (unsound-ends w.page last e))
 
 pub returns-in-Crowded : goal.returns-in-Crowded
 returns-in-Crowded c =
     λ k page number unheld first.
-    (crowded-here c.before.before.before.before.before.before.before.before k page number unheld first c.in-Crowded.is, λ word owner last e. absurd (overflows_ends last e))
+    (crowded-here c.before.before.before.before.before.before.before k page number unheld first c.in-Crowded.is, λ word owner last e. absurd (overflows_ends last e))
 
 pub returns-then-left-eq0 : goal.returns-then-left-eq0
 returns-then-left-eq0 c =
     λ k page number unheld first.
-    let x = c.before.before.before.before.before.before.before.before.before.before.before in
+    let x = c.before.before.before.before.before.before.before.before.before in
     let w = c.in-Planned in
     (ends-here x k page number unheld first w.left w.is c.if-left-eq0.true, applies-here x k page number unheld first w.left w.is c.if-left-eq0.true)
 
 pub overflow_add-next : goal.overflow_add-next
 overflow_add-next c =
-    let x = c.before.before.before.before.before.before.before.before.before.before.before.before in
+    let x = c.before.before.before.before.before.before.before.before.before.before in
     omega (arith, ended x, (bounds (start x)).pages_most)
 
 pub returns-then-next-pages : goal.returns-then-next-pages
 returns-then-next-pages c =
     λ k page number unheld first.
-    let x = c.before.before.before.before.before.before.before.before.before.before.before.before.before in
+    let x = c.before.before.before.before.before.before.before.before.before.before.before in
     let w = c.in-Planned in
     (overflows-here x k page number unheld first w.left w.is c.if-left-eq0.false (omega (arith, c.if-next-pages.true)), λ word owner last e. absurd (overflows_ends last e))
 
 pub block_from-block-requires : goal.block_from-block-requires
 block_from-block-requires c =
-    let x = c.before.before.before.before.before.before.before.before.before.before.before.before.before.before in
+    let x = c.before.before.before.before.before.before.before.before.before.before.before.before in
     let s = start x in
     record {
       parameters_value = s.requires.ready.homing.valid;
@@ -189,14 +186,14 @@ block_from-block-requires c =
 
 pub loop-page-smaller : goal.loop-page-smaller
 loop-page-smaller c =
-    let x = c.before.before.before.before.before.before.before.before.before.before.before.before.before.before.before in
+    let x = c.before.before.before.before.before.before.before.before.before.before.before.before.before in
     let s = start x in
     let begun : c.block_from-block.result.first ≡ (head x).loop-page.block.last + 1 = ap (λ (e : Extent). e.first) c.block_from-block.ensures in
     omega (arith, begun, (extent x).ends, (block-such s.args.geometry.parameters s.args.geometry.growth (file s) (head x).loop-page.block.first (extent x).inside).low, (extent x).inside)
 
 pub loop-page-preserved : goal.loop-page-preserved
 loop-page-preserved c =
-    let x = c.before.before.before.before.before.before.before.before.before.before.before.before.before.before.before in
+    let x = c.before.before.before.before.before.before.before.before.before.before.before.before.before in
     let s = start x in
     let p = s.args.geometry.parameters in
     let w = c.in-Planned in

@@ -125,7 +125,7 @@ push_within-requires c =
 
 pub decide_onward-requires : goal.decide_onward-requires
 decide_onward-requires c =
-    let x = c.before.before.before.before.before.before.before.before.before.before.before.before.before in
+    let x = c.before.before.before.before.before.before.before.before.before.before.before in
     let s = start x in
     let e = s.requires.enters in
     let w = c.in-Leaves in
@@ -142,7 +142,7 @@ decide_onward-requires c =
 
 pub name_page-page-requires : goal.name_page-page-requires
 name_page-page-requires c =
-    let x = c.before.before.before.before.before.before.before.before.before.before.before in
+    let x = c.before.before.before.before.before.before.before.before.before in
     let s = start x in
     let w = c.in-Ends in
     let done = told x (Ends w.end) w.is in
@@ -155,19 +155,19 @@ name_page-page-requires c =
 
 pub overflow_add-count : goal.overflow_add-count
 overflow_add-count c =
-    let x = c.before.before.before.before.before.before.before.before.before.before.before.before.before.before in
+    let x = c.before.before.before.before.before.before.before.before.before.before.before.before in
     let w = c.in-Ends in
     omega (arith, (told x (Ends w.end) w.is).1.0, high (start x), (bounds (start x)).pages_most)
 
 pub overflow_sub-count : goal.overflow_sub-count
 overflow_sub-count c =
-    let x = c.before.before.before.before.before.before.before.before.before.before.before.before.before.before.before in
+    let x = c.before.before.before.before.before.before.before.before.before.before.before.before.before in
     let w = c.in-Ends in
     omega (arith, (told x (Ends w.end) w.is).0)
 
 pub returns-in-Ends : goal.returns-in-Ends
 returns-in-Ends c =
-    let x = c.before.before.before.before.before.before.before.before.before.before.before.before.before.before.before in
+    let x = c.before.before.before.before.before.before.before.before.before.before.before.before.before in
     let n = c.name_page-page in
     let s = start x in
     let e = s.requires.enters in

@@ -66,7 +66,7 @@ abbrev start : Place → Start
 start x = x.before.before.before.before.before.before.before.before.before.before.before.before
 
 abbrev come : Place → List ℕ
-come x = x.join_page-reach.last.1.1.0
+come x = x.join_page-reach.new.waiting
 
 ends : (x : Place) → x.join_page-reach.result ≡ (start x).args.end + length (page_words (start x).args.geometry.parameters (start x).args.geometry.growth (file (start x)) (start x).args.page)
 ends x =

@@ -34,9 +34,6 @@ At-loop-at = lts.At-loop tie.the-claims reads.Pre reads.Post goal.the-invariant-
 abbrev After-push_page-next : Type 0
 After-push_page-next = lts.After-push_page tie.the-claims reads.Pre reads.Post goal.the-invariant-loop-at goal.the-decreases-loop-at tie.handed_clauses
 
-abbrev Start : Type 0
-Start = Start
-
 abbrev file : Start → File
 file s = lent s.args.separators.now s.args.numbers.now s.args.words.now s.args.owners.now
 
@@ -106,7 +103,7 @@ few_words x =
     words-room s.args.geometry.parameters s.args.geometry.growth (file s) s.requires.enters.ready.homing.valid s.requires.enters.ready.sized (head x).loop-at.at (inside x) (sound x) (head x).loop-at.pool
     (((head x).loop-at.invariant.1.1.1.1.0 (head x).loop-at.at (le_refl _) (within x)).kept (inside x))
 
-waiting_kept : (x : Place) → length x.push_page-next.last.1.1.1.1.1.1.1.0 ≡ length (begun (head x)).args.waiting.now
+waiting_kept : (x : Place) → length x.push_page-next.new.waiting ≡ length (begun (head x)).args.waiting.now
 waiting_kept x = x.push_page-next.kept.1.1.1.1.1.1.1.0 ∙ waiting-same (head x)
 
 roomy : (h : Head) → h.loop-at.at < (begun h).args.last + 1 → h.loop-at.end + (begun h).args.geometry.parameters.places ≤ (begun h).args.geometry.parameters.pages * (begun h).args.geometry.parameters.places
@@ -114,7 +111,7 @@ roomy h t =
     let s = begun h in
     rolling_room s.args.geometry.parameters s.args.geometry.growth (file s) s.args.star.number s.args.star.page s.requires.enters.ready.homing.valid s.requires.enters.ready.sized s.requires.enters.number s.requires.enters.unheld s.requires.enters.here h.loop-at.pool h.loop-at.planned h.loop-at.waiting h.loop-at.at h.loop-at.from h.loop-at.end (rolls h) (s.args.last + 1) t (some h)
 
-come : (x : Place) → x.push_page-next.result.reach ≤ length x.push_page-next.last.1.1.1.1.1.1.1.0
+come : (x : Place) → x.push_page-next.result.reach ≤ length x.push_page-next.new.waiting
 come x = omega (arith, x.push_page-next.ensures.ends, few_words x, roomy (head x) (within x), waiting_kept x, (begun (head x)).requires.pool_len.1)
 
 pub pack-requires : goal.pack-requires

@@ -122,7 +122,7 @@ plan_onward-requires c =
 
 pub name_page-page-requires : goal.name_page-page-requires
 name_page-page-requires c =
-    let x = c.before.before.before.before.before.before.before.before.before.before.before in
+    let x = c.before.before.before.before.before.before.before.before.before in
     let s = start x in
     let w = c.in-Ends in
     record {
@@ -134,19 +134,19 @@ name_page-page-requires c =
 
 pub overflow_add-count : goal.overflow_add-count
 overflow_add-count c =
-    let x = c.before.before.before.before.before.before.before.before.before.before.before.before.before.before in
+    let x = c.before.before.before.before.before.before.before.before.before.before.before.before in
     let w = c.in-Ends in
     omega (arith, high x w.end w.is, (bounds (start x)).pages_most)
 
 pub overflow_sub-count : goal.overflow_sub-count
 overflow_sub-count c =
-    let x = c.before.before.before.before.before.before.before.before.before.before.before.before.before.before.before in
+    let x = c.before.before.before.before.before.before.before.before.before.before.before.before.before in
     let w = c.in-Ends in
     omega (arith, low x w.end w.is)
 
 pub returns-in-Unsound : goal.returns-in-Unsound
 returns-in-Unsound c =
-    let x = c.before.before.before.before.before.before.before.before.before.before in
+    let x = c.before.before.before.before.before.before.before.before in
     let s = start x in
     let w = c.in-Unsound in
     let done = unsound-answer s.args.geometry.parameters s.args.geometry.growth (file s) s.args.star.number s.args.star.word s.args.star.owner w.page (sym w.is ∙ (told x).0 s.args.star.word s.args.star.owner) in
@@ -154,14 +154,14 @@ returns-in-Unsound c =
 
 pub returns-in-Overflows : goal.returns-in-Overflows
 returns-in-Overflows c =
-    let x = c.before.before.before.before.before.before.before.before.before in
+    let x = c.before.before.before.before.before.before.before.before in
     let s = start x in
     let done = overflows_answer s.args.geometry.parameters s.args.geometry.growth (file s) s.args.star.number s.args.star.word s.args.star.owner (sym c.in-Overflows.is ∙ (told x).0 s.args.star.word s.args.star.owner) in
     record { answers = done.0; files = done.1; feasible = tt }
 
 pub returns-in-Ends : goal.returns-in-Ends
 returns-in-Ends c =
-    let x = c.before.before.before.before.before.before.before.before.before.before.before.before.before.before.before in
+    let x = c.before.before.before.before.before.before.before.before.before.before.before.before.before in
     let n = c.name_page-page in
     let s = start x in
     let w = c.in-Ends in

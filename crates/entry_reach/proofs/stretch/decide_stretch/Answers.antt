@@ -63,38 +63,38 @@ plan_entry-requires c =
     }
 
 pub slice_bounds-named_from-end : goal.slice_bounds-named_from-end
-slice_bounds-named_from-end c = longer c.before.before.before.before.before.before.before.before.before.before
+slice_bounds-named_from-end c = longer c.before.before.before.before.before.before.before.before
 
 pub slice_bounds-named_from-end-in-Ends : goal.slice_bounds-named_from-end-in-Ends
 slice_bounds-named_from-end-in-Ends c =
-    let x = c.before.before.before.before.before.before.before.before.before.before in
+    let x = c.before.before.before.before.before.before.before.before in
     sym (length-take-le (start x).args.geometry.parameters.pages x.plan_entry.new.planned (longer x))
 
 pub named_from-page-requires : goal.named_from-page-requires
 named_from-page-requires c =
-    let s = c.before.before.before.before.before.before.before.before.before.before.before.before.before.before.before.before.before.before.before.before.before.before.before in
+    let s = c in
     let planned = c.plan_entry in
     record {
       homing = s.requires.enters.ready.homing;
-      separators_len = length-take-le s.args.geometry.parameters.pages planned.new.planned (longer c.before.before.before.before.before.before.before.before.before.before);
+      separators_len = length-take-le s.args.geometry.parameters.pages planned.new.planned (longer c.before.before.before.before.before.before.before.before);
       home_value = s.requires.enters.homed;
     }
 
 pub overflow_add-result : goal.overflow_add-result
 overflow_add-result c =
-    let x = c.before.before.before.before.before.before.before.before.before.before.before in
+    let x = c.before.before.before.before.before.before.before.before.before in
     let w = c.in-Ends in
     omega (arith, high x w.last w.is, (bounds (start x)).pages_most)
 
 pub overflow_sub-result : goal.overflow_sub-result
 overflow_sub-result c =
-    let x = c.before.before.before.before.before.before.before.before.before.before.before.before in
+    let x = c.before.before.before.before.before.before.before.before.before.before in
     let w = c.in-Ends in
     omega (arith, low x w.last w.is)
 
 pub returns-in-Unsound : goal.returns-in-Unsound
 returns-in-Unsound c =
-    let x = c.before.before.before.before.before.before.before.before.before.before in
+    let x = c.before.before.before.before.before.before.before.before in
     let s = start x in
     let w = c.in-Unsound in
     let done = unsound-answer s.args.geometry.parameters s.args.geometry.growth (file s) s.args.star.number s.args.star.word s.args.star.owner w.page (sym w.is ∙ x.plan_entry.ensures.by_index s.args.star.word s.args.star.owner) in
@@ -102,14 +102,14 @@ returns-in-Unsound c =
 
 pub returns-in-Overflows : goal.returns-in-Overflows
 returns-in-Overflows c =
-    let x = c.before.before.before.before.before.before.before.before.before in
+    let x = c.before.before.before.before.before.before.before.before in
     let s = start x in
     let done = overflows_answer s.args.geometry.parameters s.args.geometry.growth (file s) s.args.star.number s.args.star.word s.args.star.owner (sym c.in-Overflows.is ∙ x.plan_entry.ensures.by_index s.args.star.word s.args.star.owner) in
     record { answers = done.0; files = done.1; feasible = tt }
 
 pub returns-in-Ends : goal.returns-in-Ends
 returns-in-Ends c =
-    let x = c.before.before.before.before.before.before.before.before.before.before.before in
+    let x = c.before.before.before.before.before.before.before.before.before in
     let s = start x in
     let w = c.in-Ends in
     let last = w.last in

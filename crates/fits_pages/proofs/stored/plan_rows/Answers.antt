@@ -90,7 +90,7 @@ place_all-requires c =
       few = omega (arith, few-items s, s.requires.pool_len, d.gather_keys.auto.waiting, m.number_rows.auto.waiting);
       order = omega arith;
       inside = omega (arith, room s, d.gather_keys.auto.waiting, m.number_rows.auto.waiting);
-      grouped-are =
+      grouped_are =
           in_groups_lem s.args.geometry s.args.given.now s.args.rows s.requires.homing.valid s.requires.homing.growth (some s) s.requires.rows_bound.0 s.requires.rows_value (keys_of k)
           s.args.waiting.now _ _ (inside k) (front k) (most s) (room s) d.gather_keys.auto.waiting d.gather_keys.ensures _ m.number_rows.auto.waiting m.number_rows.ensures;
       near = unfold all in refl;

@@ -21,4 +21,4 @@ returns-then-kind-eq7 c =
 pub returns : goal.returns
 returns c =
     rw c.unmoved-2.ensures
-    (check_steps _ _ _ _ _ _ _ c.checked_answer.ensures _ _ c.if-kind-eq4.false c.if-kind-eq7.false c.check-checked.ensures)
+    (check_steps _ _ _ _ _ _ _ c.checked_answer.ensures _ _ c.if-kind-eq4.false c.if-kind-eq7.false c.check-checked.ensures.leaves)

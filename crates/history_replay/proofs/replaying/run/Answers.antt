@@ -2,6 +2,7 @@
 use mathlib.Core.Path.{◌≡◌, ◌∙◌}
 use Prim.Native.Nat.{◌-◌}
 use native.Mathlib.Omega.{arith}
+use borrow.Author.Rules.{rules}
 use lib.IntN.{pos}
 use lib.ListN.{length, get_or}
 use mir.Syntax.{w32}
@@ -68,7 +69,7 @@ loop-i-preserved c =
     let i = c.loop-i.i in
     let t = c.loop-i.invariant in
     let k = c.replay_step-state.auto in
-    let back : to_z w32 (of_z w32 (get_or decs i (pos 0))) ≡ get_or decs i (pos 0) = to_z-of_z {w = w32} (c.type_inv.decs i) in (
+    let back : to_z w32 (of_z w32 (get_or decs i (pos 0))) ≡ get_or decs i (pos 0) = to_z-of_z {w = w32} {z = get_or decs i (pos 0)} (search rules) in (
       ongoing_more _ _ _ _ _ _ _ _ _ _ _ t.0 c.loop-i-test.true _ _ _ _ (rw back at c.replay_step-state.ensures),
       record {
         of_separators = k.separators ∙ t.1.of_separators;

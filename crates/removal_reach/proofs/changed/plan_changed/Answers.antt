@@ -89,7 +89,7 @@ settle_changed-requires c =
         few = omega (arith, p.few, d.gather.auto.waiting);
         order = omega arith;
         inside = omega (arith, end_is d, enough s, d.gather.auto.waiting);
-        grouped-are = rw (in_groups_lem d) (started-again _ _ _ _ _ _ (ready d));
+        grouped_are = rw (in_groups_lem d) (started-again _ _ _ _ _ _ (ready d));
         near = refl;
       };
       places_in_bounds = p.of_numbers;
