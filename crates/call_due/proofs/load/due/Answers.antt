@@ -106,8 +106,7 @@ unfolding file_fits_lem
 in_use-pages-requires c =
     let f = lent c.args.separators.now c.args.numbers.now c.args.words.now c.args.owners.now in
     let none = none-of c.args.parameters c.args.growth f c.guard.ensures c.file_fits-fits.ensures c.in_default.is in
-    let l = limits _ (lent-well _ _ f none).homing.valid in
-    (
+    let l = limits _ (lent-well _ _ f none).homing.valid in (
       l.places_least,
       l.places_most,
       omega (arith, c.highest_address-highest.ensures, highest-most _ _ f none, l.pages_most),

@@ -27,8 +27,8 @@ loop-i-smaller c = omega arith
 pub loop-i-preserved : goal.loop-i-preserved
 loop-i-preserved c =
     elim c.if-numbers-i-eq0.branch [
-      then-numbers-i-eq0 w ↦ rw w.empty-is (counted-empty _ _ _ c.loop-i.invariant (omega arith) w.if-numbers-i-eq0.true)
-    | else-numbers-i-eq0 w ↦ rw w.empty-is (counted-star _ _ _ c.loop-i.invariant (omega arith) w.if-numbers-i-eq0.false)
+      | then-numbers-i-eq0 w ↦ rw w.empty-is (counted-empty _ _ _ c.loop-i.invariant (omega arith) w.if-numbers-i-eq0.true)
+      | else-numbers-i-eq0 w ↦ rw w.empty-is (counted-star _ _ _ c.loop-i.invariant (omega arith) w.if-numbers-i-eq0.false)
     ]
 
 pub overflow_sub-result : goal.overflow_sub-result

@@ -156,8 +156,8 @@ returns-then-stores-eq0 c =
     let read = not-false _ c.if-not-named.false in
     let there = not-false _ c.if-not-named-2.false in
     let whole : Leaves (change_of c.args.parameters c.args.growth f unpooled c.args.caller c.args.number c.args.position) (placed (On c.find-named.result.page c.find-named.result.place)) (lent f.separators f.numbers (set f.words c.find-named.result.item (packed c.args.position)) f.owners) unpooled =
-        changed c.args.parameters c.args.growth f c.args.caller c.args.number c.args.position _ passed-guard numbered positioned found read there
-        (altered _ _ _ _ _ (found.owner_is there) c.may_alter.ensures c.if-not-may_alter.false) in
+    changed c.args.parameters c.args.growth f c.args.caller c.args.number c.args.position _ passed-guard numbered positioned found read there
+    (altered _ _ _ _ _ (found.owner_is there) c.may_alter.ensures c.if-not-may_alter.false) in
     rewritten-leaves c.args.parameters f well.sized (limits _ well.homing.valid).places_least c.find-named.result.item (packed c.args.position) c.args.stores _ _ unpooled _ whole
     (rw (eq-eqb _ 0 c.if-stores-eq0.true))
 
@@ -190,7 +190,7 @@ returns c =
     let read = not-false _ c.if-not-named.false in
     let there = not-false _ c.if-not-named-2.false in
     let whole : Leaves (change_of c.args.parameters c.args.growth f unpooled c.args.caller c.args.number c.args.position) (placed (On c.find-named.result.page c.find-named.result.place)) (lent f.separators f.numbers (set f.words c.find-named.result.item (packed c.args.position)) f.owners) unpooled =
-        changed c.args.parameters c.args.growth f c.args.caller c.args.number c.args.position _ passed-guard numbered positioned found read there
-        (altered _ _ _ _ _ (found.owner_is there) c.may_alter.ensures c.if-not-may_alter.false) in
+    changed c.args.parameters c.args.growth f c.args.caller c.args.number c.args.position _ passed-guard numbered positioned found read there
+    (altered _ _ _ _ _ (found.owner_is there) c.may_alter.ensures c.if-not-may_alter.false) in
     rewritten-leaves c.args.parameters f well.sized (limits _ well.homing.valid).places_least c.find-named.result.item (packed c.args.position) c.args.stores _ _ unpooled _ whole
     (rw (ne_eqb _ 0 c.if-stores-eq0.false) (ap (λ (w : ℕ). lent f.separators f.numbers (set f.words c.find-named.result.item w) f.owners) c.pack.ensures))

@@ -25,8 +25,8 @@ pub returns-in-Refused : goal.returns-in-Refused
 unfolding placed file_fits_lem
 returns-in-Refused c =
     let made =
-      make_refused c.args.parameters (lent c.args.separators.now c.args.numbers.now c.args.words.now c.args.owners.now) unpooled _
-      (refusal_is _ _ c.guard.ensures c.file_fits-fits.ensures c.in-Refused.is) in
+    make_refused c.args.parameters (lent c.args.separators.now c.args.numbers.now c.args.words.now c.args.owners.now) unpooled _
+    (refusal_is _ _ c.guard.ensures c.file_fits-fits.ensures c.in-Refused.is) in
     record { leaves = made.0; growth_value = made.1 }
 
 pub empty-requires : goal.empty-requires

@@ -1,10 +1,7 @@
 -- What the sources before i name is written. Assumes nothing.
 use Prim.Native.Nat.{◌-◌, ◌≤◌}
-use native.Mathlib.Omega.{arith}
-use borrow.Author.Rules.{rules}
 use lib.ListN.{length}
-use Rattle.buffers.proofs.Copies.{none}
-use Rattle.carrying.proofs.Carried.{Named, named-next, named-all}
+use Rattle.carrying.proofs.Carried.{Named}
 use Rattle.carrying.proofs.second.fill_second.Given as goal
 
 abbrev pub invariant-loop-i : goal.invariant-loop-i

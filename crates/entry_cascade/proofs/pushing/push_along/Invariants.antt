@@ -1,24 +1,10 @@
 -- Page after page as `Rolling` says.
-use mathlib.Core.Path.{◌≡◌, refl, ◌∙◌, subst}
-use Prim.Native.Nat.{ℕ, ◌-◌, ◌*◌, ◌≤◌, ◌<◌}
-use native.Mathlib.Nat.{le_refl}
-use native.Mathlib.Omega.{arith}
-use lib.ListN.{length, length-set}
-use borrow.Author.Rules.{rules}
-use Rattle.hashing.specs.Geometry.{multiplier_of}
-use Rattle.hashing.proofs.Bounds.{Limits, limits}
-use Rattle.hashing.proofs.Homes.{home-pages}
-use Rattle.pages.proofs.Parts.{page-fits}
-use Rattle.placement.specs.File.{File}
+use mathlib.Core.Path.{◌≡◌}
+use Prim.Native.Nat.{◌-◌}
+use lib.ListN.{length}
 use Rattle.placement.specs.Hash.{lent}
-use Rattle.placement.proofs.Prepared.{first-signers}
-use Rattle.entry_reach.proofs.Reached.{some-items}
-use Rattle.entry_cascade.specs.declared.arriving.Taken.{Taken}
-use Rattle.entry_cascade.specs.declared.arriving.Taken.TheVariants.{Joined, Unsound, Crowded}
 use Rattle.entry_reach.specs.Entry.{KnownTo}
-use Rattle.entry_cascade.specs.Arriving.{TakenIn, Joins}
-use Rattle.entry_reach.proofs.Pushed.{small, few, new-packed}
-use Rattle.entry_cascade.proofs.Rolling.{Rolling, rolling_none, rolling_unsound, rolling_crowded, rolling_probing, rolling_ends, rolling_next, rolling_known, rolling_overflow}
+use Rattle.entry_cascade.proofs.Rolling.{Rolling}
 use Rattle.entry_cascade.proofs.pushing.push_along.Given as goal
 
 abbrev pub invariant-loop-at : goal.invariant-loop-at

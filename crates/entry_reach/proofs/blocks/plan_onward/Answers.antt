@@ -154,7 +154,7 @@ returns-in-Unsound c =
 pub returns-in-Crowded : goal.returns-in-Crowded
 returns-in-Crowded c =
     λ k page number unheld first.
-    (crowded-here c.before.before.before.before.before.before.before k page number unheld first c.in-Crowded.is, λ word owner last e. absurd (overflows_ends last e))
+    (crowded-here c.before.before.before.before.before.before.before.before k page number unheld first c.in-Crowded.is, λ word owner last e. absurd (overflows_ends last e))
 
 pub returns-then-left-eq0 : goal.returns-then-left-eq0
 returns-then-left-eq0 c =

@@ -26,8 +26,8 @@ returns c =
     let low : s.args.page ≤ s.args.end + 1 = omega (arith, s.requires.page_le_end.0) in
     let high : s.args.end + 1 ≤ M = omega (arith, s.requires.page_le_end.1) in
     let completed : c.copy_8-2.new.to
-        ≡ paste (paste s.args.planned.now 0 s.args.separators.now s.args.page) (s.args.end + 1) (drop (s.args.end + 1) s.args.separators.now) (M - (s.args.end + 1)) =
-        c.copy_8-2.ensures ∙ ap (λ (l : List ℕ). paste l (s.args.end + 1) (drop (s.args.end + 1) s.args.separators.now) (M - (s.args.end + 1))) c.copy_8.ensures in
+    ≡ paste (paste s.args.planned.now 0 s.args.separators.now s.args.page) (s.args.end + 1) (drop (s.args.end + 1) s.args.separators.now) (M - (s.args.end + 1)) =
+    c.copy_8-2.ensures ∙ ap (λ (l : List ℕ). paste l (s.args.end + 1) (drop (s.args.end + 1) s.args.separators.now) (M - (s.args.end + 1))) c.copy_8.ensures in
     record {
       value = c.named_from.ensures
           ∙ ap (λ (l : List ℕ). named_page_lem s.args.geometry.parameters s.args.geometry.growth l s.args.number)

@@ -104,7 +104,7 @@ few_words x =
     (((head x).loop-at.invariant.1.1.1.1.0 (head x).loop-at.at (le_refl _) (within x)).kept (inside x))
 
 waiting_kept : (x : Place) → length x.push_page-next.new.waiting ≡ length (begun (head x)).args.waiting.now
-waiting_kept x = x.push_page-next.kept.1.1.1.1.1.1.1.0 ∙ waiting-same (head x)
+waiting_kept x = x.push_page-next.auto.waiting ∙ waiting-same (head x)
 
 roomy : (h : Head) → h.loop-at.at < (begun h).args.last + 1 → h.loop-at.end + (begun h).args.geometry.parameters.places ≤ (begun h).args.geometry.parameters.pages * (begun h).args.geometry.parameters.places
 roomy h t =

@@ -88,7 +88,7 @@ overflow_add-result c =
 
 pub overflow_sub-result : goal.overflow_sub-result
 overflow_sub-result c =
-    let x = c.before.before.before.before.before.before.before.before.before.before in
+    let x = c.before.before.before.before.before.before.before.before.before in
     let w = c.in-Ends in
     omega (arith, low x w.last w.is)
 

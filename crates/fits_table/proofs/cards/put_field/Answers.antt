@@ -50,9 +50,9 @@ loop-i-preserved c =
     let o = set s.args.out.now (s.args.at + 19) c.digit.result in (
       omega arith,
       elim c.if-rest-eq0.branch [
-            then-rest-eq0 w ↦ rw w.out-is (filled_next o t.out s.args.at _ t.rest t.i 32 c.loop-i-test.true (omega (arith, s.requires, length-set s.args.out.now (s.args.at + 19) c.digit.result)) (rw (eq-eqb _ _ w.if-rest-eq0.true)) t.invariant.1)
-          | else-rest-eq0 w ↦ rw w.out-is (filled_next o t.out s.args.at _ t.rest t.i _ c.loop-i-test.true (omega (arith, s.requires, length-set s.args.out.now (s.args.at + 19) c.digit.result)) (w.digit-else-rest-eq0.ensures ∙ rw (ne_eqb _ _ w.if-rest-eq0.false)) t.invariant.1)
-          ],
+        | then-rest-eq0 w ↦ rw w.out-is (filled_next o t.out s.args.at _ t.rest t.i 32 c.loop-i-test.true (omega (arith, s.requires, length-set s.args.out.now (s.args.at + 19) c.digit.result)) (rw (eq-eqb _ _ w.if-rest-eq0.true)) t.invariant.1)
+        | else-rest-eq0 w ↦ rw w.out-is (filled_next o t.out s.args.at _ t.rest t.i _ c.loop-i-test.true (omega (arith, s.requires, length-set s.args.out.now (s.args.at + 19) c.digit.result)) (w.digit-else-rest-eq0.ensures ∙ rw (ne_eqb _ _ w.if-rest-eq0.false)) t.invariant.1)
+      ],
     )
 
 pub shape_of-out : goal.shape_of-out

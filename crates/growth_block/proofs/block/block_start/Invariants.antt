@@ -1,6 +1,4 @@
-use mathlib.Core.Path.{◌≡◌}
-use native.Mathlib.Omega.{arith}
-use Rattle.growth_block.proofs.Starting.{Seeking, seeking_next, seeking_found, seeking_none}
+use Rattle.growth_block.proofs.Starting.{Seeking}
 use Rattle.growth_block.proofs.block.block_start.Given as goal
 
 abbrev pub invariant-loop-lo : goal.invariant-loop-lo

@@ -1,13 +1,8 @@
-use mathlib.Core.Path.{◌≡◌, refl, sym, ap, ◌∙◌}
-use Prim.Native.Nat.{ℕ, ◌+◌, ◌-◌, ◌≤◌}
-use native.Mathlib.Omega.{arith}
-use lib.ListN.{length, drop, length-drop}
-use borrow.Author.Rules.{rules}
+use Prim.Native.Nat.{◌-◌, ◌≤◌}
+use lib.ListN.{drop}
 use Rattle.hashing.specs.Geometry.{grown}
-use Rattle.buffers.proofs.Copies.{Copied, none, turn, done, unread}
-use Rattle.growth_in_place.proofs.Joiners.{home-item, length-homes}
+use Rattle.buffers.proofs.Copies.{Copied}
 use Rattle.growth_block.specs.Block.{homes_taken}
-use Rattle.growth_block.proofs.Planned.{length-upto, upto_next}
 use Rattle.growth_block.proofs.block.rehome_items.Given as goal
 
 abbrev pub invariant-loop-i : goal.invariant-loop-i

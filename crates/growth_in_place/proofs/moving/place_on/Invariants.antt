@@ -1,14 +1,6 @@
-use mathlib.Core.Path.{ap}
-use mathlib.Core.Logic.{⊎_elim}
 use Prim.Native.Nat.{◌*◌, ◌-◌, ◌≤◌}
-use native.Mathlib.Omega.{arith}
-use lib.ListN.{drop, length-drop}
-use lib.Seq.{get_or-drop}
-use borrow.Author.Rules.{rules}
-use borrow.Author.Tests.{eq-eqb, ne_eqb}
-use Rattle.pages.specs.Page.{part}
-use Rattle.pages.specs.declared.page.Place.{Place}
-use Rattle.pages.proofs.Places.{Passed, passed_none, passed-more, passed-found, passed-all}
+use lib.ListN.{drop}
+use Rattle.pages.proofs.Places.{Passed}
 use Rattle.growth_in_place.proofs.moving.place_on.Given as goal
 
 abbrev pub invariant-loop-i : goal.invariant-loop-i

@@ -1,11 +1,6 @@
-use mathlib.Core.Path.{sym, ◌∙◌}
-use Prim.Native.Nat.{◌-◌, ◌≤◌, ◌<◌}
-use native.Mathlib.Omega.{arith}
-use borrow.Author.Rules.{rules}
-use Rattle.hashing.proofs.Bounds.{limits}
-use Rattle.placement.specs.Shape.{Sized}
+use Prim.Native.Nat.{◌-◌}
 use Rattle.placement.specs.Hash.{lent}
-use Rattle.growth_in_place.proofs.Renewed.{Renewed, renewed_none, renewed_all, renewed_sized, ends-least, ends-most, renewed_block, renewed_next}
+use Rattle.growth_in_place.proofs.Renewed.{Renewed}
 use Rattle.growth_in_place.proofs.renewing.replace_blocks.Given as goal
 
 abbrev pub invariant-loop-lo : goal.invariant-loop-lo

@@ -1,11 +1,6 @@
-use mathlib.Core.Path.{◌≡◌, sym, ◌∙◌}
-use Prim.Native.Nat.{◌+◌, ◌-◌, ◌≤◌, ◌<◌}
-use native.Mathlib.Omega.{arith}
-use Rattle.hashing.specs.Geometry.{page_count}
-use Rattle.hashing.proofs.Bounds.{limits}
-use Rattle.growth_in_place.specs.Expansion.{SettledBelow, Moving, KeptStars, runs_to, is_near}
-use Rattle.growth_in_place.proofs.OnPage.{kept-none, kept_more, settled-next}
-use Rattle.growth_in_place.proofs.Walk.{runs_none, runs-next, near-is, none_left}
+use mathlib.Core.Path.{◌≡◌}
+use Prim.Native.Nat.{◌-◌, ◌≤◌}
+use Rattle.growth_in_place.specs.Expansion.{SettledBelow, Moving, KeptStars, runs_to}
 use Rattle.growth_in_place.proofs.stars.move_below.Given as goal
 
 abbrev pub invariant-loop-page : goal.invariant-loop-page

@@ -1,16 +1,6 @@
-use mathlib.Core.Path.{◌≡◌, sym, ap, ◌∙◌}
-use mathlib.Core.Bool.{true}
-use Prim.Native.Nat.{◌+◌, ◌-◌, ◌*◌, ◌≤◌, ◌<◌}
-use native.Mathlib.Nat.{mul-le-mul}
-use native.Mathlib.Omega.{arith}
+use Prim.Native.Nat.{◌-◌, ◌≤◌}
 use lib.ListN.{drop}
-use borrow.Author.Rules.{rules}
-use Rattle.hashing.specs.Geometry.{page_count}
-use Rattle.hashing.proofs.Bounds.{limits}
-use Rattle.pages.proofs.Parts.{page-fits, part-item}
-use Rattle.page_edit.specs.Shift.{number_at}
-use Rattle.growth_in_place.specs.Expansion.{joins, joins_at, NoneJoins, page_stars, Moving, KeptStars}
-use Rattle.growth_in_place.proofs.OnPage.{held-joins, kept-none, kept_more, home-there, none-behind, taken-there, left_there}
+use Rattle.growth_in_place.specs.Expansion.{NoneJoins, page_stars, Moving, KeptStars}
 use Rattle.growth_in_place.proofs.stars.move_from.Given as goal
 
 abbrev pub invariant-loop-i : goal.invariant-loop-i

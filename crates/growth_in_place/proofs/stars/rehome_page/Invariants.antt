@@ -1,13 +1,8 @@
-use mathlib.Core.Path.{◌≡◌, refl, ◌∙◌, sym, ap}
-use lib.Seq.{get_or-drop}
-use Rattle.growth_in_place.proofs.Joiners.{home-item, length-homes}
-use Prim.Native.Nat.{ℕ, ◌+◌, ◌*◌, ◌-◌, ◌≤◌}
-use native.Mathlib.Omega.{arith}
-use lib.ListN.{length, drop, length-drop}
-use borrow.Author.Rules.{rules}
+use Prim.Native.Nat.{◌*◌, ◌-◌, ◌≤◌}
+use lib.ListN.{drop}
 use Rattle.hashing.specs.Geometry.{grown}
 use Rattle.placement.specs.Shape.{homes_of}
-use Rattle.buffers.proofs.Copies.{Copied, none, turn, done, unread}
+use Rattle.buffers.proofs.Copies.{Copied}
 use Rattle.growth_in_place.proofs.stars.rehome_page.Given as goal
 
 abbrev pub invariant-loop-i : goal.invariant-loop-i

@@ -1,12 +1,6 @@
-use mathlib.Core.Path.{◌≡◌, ◌∙◌, sym, ap}
-use Prim.Native.Nat.{◌+◌, ◌*◌, ◌-◌, ◌≤◌, ◌<◌}
-use native.Mathlib.Nat.{mul-le-mul}
-use native.Mathlib.Omega.{arith}
-use Rattle.hashing.proofs.Bounds.{limits}
-use Rattle.pages.proofs.Parts.{page-fits}
-use Rattle.growth_in_place.specs.Expansion.{joiners_below, runs_to, is_near}
-use Rattle.growth_in_place.proofs.Joiners.{below_none, below_next, below-most}
-use Rattle.growth_in_place.proofs.Walk.{runs_none, runs-next, near-is}
+use mathlib.Core.Path.{◌≡◌}
+use Prim.Native.Nat.{◌-◌, ◌≤◌}
+use Rattle.growth_in_place.specs.Expansion.{joiners_below, runs_to}
 use Rattle.growth_in_place.proofs.tallying.count_stars.Given as goal
 
 abbrev pub invariant-loop-page : goal.invariant-loop-page

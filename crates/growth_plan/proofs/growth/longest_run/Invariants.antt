@@ -1,6 +1,5 @@
 -- `growth_plan::growth::longest_run` meets its contract: it is safe, and ends.
 use Prim.Native.Nat.{◌-◌, ◌≤◌}
-use native.Mathlib.Omega.{arith}
 use lib.ListN.{length}
 use Rattle.growth_plan.proofs.growth.longest_run.Given as goal
 

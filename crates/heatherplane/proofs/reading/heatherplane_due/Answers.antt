@@ -5,5 +5,4 @@ use Rattle.heatherplane.proofs.reading.heatherplane_due.Goals as goal
 
 pub returns : goal.returns
 returns c =
-    let made = c.before.before.before.before in
-    told_same _ c.reply_of.ensures made.record_of-growth.ensures (c.due_answer.ensures ∙ rw made.record_of-growth.ensures at c.due-answer.ensures)
+    told_same _ c.reply_of.ensures c.record_of-growth.ensures (c.due_answer.ensures ∙ rw c.record_of-growth.ensures at c.due-answer.ensures.answer)

@@ -5,5 +5,4 @@ use Rattle.heatherplane.proofs.reading.heatherplane_look_up.Goals as goal
 
 pub returns : goal.returns
 returns c =
-    let made = c.before.before.before.before in
-    told_same _ c.reply_of.ensures made.record_of-growth.ensures (c.sought_answer.ensures ∙ rw made.record_of-growth.ensures at c.look_up-found.ensures)
+    told_same _ c.reply_of.ensures c.record_of-growth.ensures (c.sought_answer.ensures ∙ rw c.record_of-growth.ensures at c.look_up-found.ensures.answer)

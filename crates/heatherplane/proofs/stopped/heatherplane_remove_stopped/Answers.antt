@@ -4,7 +4,4 @@ use Rattle.heatherplane.proofs.stopped.heatherplane_remove_stopped.Goals as goal
 
 pub returns : goal.returns
 returns c =
-    let stored = c.before.before.before.before.before.before.before.before.before in
-    let called = stored.before.before.before.before.before.before.before.before in
-    let made = called.before.before.before.before.before.before.before.before in
-    told _ c.reply_of.ensures made.record_of-growth.ensures c.placed_answer.ensures (rw made.record_of-growth.ensures at called.remove_stopped-answer.ensures)
+    told _ c.reply_of.ensures c.record_of-growth.ensures c.placed_answer.ensures (rw c.record_of-growth.ensures at c.remove_stopped-answer.ensures.leaves)

@@ -5,8 +5,4 @@ use Rattle.heatherplane.proofs.writing.heatherplane_cascade.Goals as goal
 
 pub returns : goal.returns
 returns c =
-    let stored = c.before.before.before.before.before.before.before.before.before in
-    let called = stored.before.before.before.before.before.before.before.before in
-    let made = called.before.before.before.before.before.before.before.before in
-    let start = made.before.before.before.before.before.before.before.before in
-    told _ c.reply_of.ensures made.record_of-growth.ensures c.placed_answer.ensures (rw (made.record_of-growth.ensures, to_z-of_z start.ranges.dec) at called.cascade-answer.ensures)
+    told _ c.reply_of.ensures c.record_of-growth.ensures c.placed_answer.ensures (rw (c.record_of-growth.ensures, to_z-of_z c.ranges.dec) at c.cascade-answer.ensures.leaves)

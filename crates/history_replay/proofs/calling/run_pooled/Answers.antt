@@ -8,9 +8,9 @@ use Rattle.history_replay.proofs.calling.run_pooled.Goals.{then-kind-eq1-via-the
 pub returns-then-kind-eq1 : goal.returns-then-kind-eq1
 returns-then-kind-eq1 c =
     elim c.then-kind-eq1.branch [
-        then-kind-eq1-via-then-kind-eq1 w ↦ entered-steps _ _ _ _ _ _ _ _ _ _ _ c.run_entry.ensures w.if-kind-eq1.true
+      | then-kind-eq1-via-then-kind-eq1 w ↦ entered-steps _ _ _ _ _ _ _ _ _ _ _ c.run_entry.ensures w.if-kind-eq1.true
       | then-kind-eq1-via-else-kind-eq1+then-kind-eq8 w ↦ cascaded-steps _ _ _ _ _ _ _ _ _ _ _ c.run_entry.ensures (eq-eqb _ _ w.if-kind-eq8.true)
-      ]
+    ]
 
 pub returns-then-kind-eq3 : goal.returns-then-kind-eq3
 returns-then-kind-eq3 c =

@@ -1,10 +1,7 @@
-use mathlib.Core.Path.{◌≡◌, refl}
+use mathlib.Core.Path.{◌≡◌}
 use Prim.Native.Nat.{◌-◌}
-use native.Mathlib.Omega.{arith}
 use lib.ListN.{length}
-use Rattle.hashing.proofs.Bounds.{passed, failed}
-use Rattle.mending.proofs.Items.{Valid, valid-fails, valid-next, valid-all}
-use borrow.Author.Rules.{rules}
+use Rattle.mending.proofs.Items.{Valid}
 use Rattle.mending.proofs.contents.items_valid.Given as goal
 
 abbrev pub invariant-loop-i : goal.invariant-loop-i

@@ -50,9 +50,9 @@ returns-then-page-geometry c =
     let s = c.before.before.before.before.before.before.before.before.before.before in
     record {
       named_as = rw c.unread.ensures (
-        unread-as s.args.geometry.parameters s.args.geometry.growth (file_of s) s.args.number _ _ s.requires.ready.sized s.requires.home_value c.named_from-page.ensures
-            (past-file _ _ _ _ c.if-page-geometry.true)
-      );
+          unread-as s.args.geometry.parameters s.args.geometry.growth (file_of s) s.args.number _ _ s.requires.ready.sized s.requires.home_value c.named_from-page.ensures
+          (past-file _ _ _ _ c.if-page-geometry.true)
+          );
       homed_as = rw c.unread.ensures (record { long = s.requires.homes_len; homed = λ e. absurd (false≢true e) });
     }
 
@@ -109,9 +109,9 @@ returns-then-not-page_sound c =
     let s = begun e in
     record {
       named_as = rw c.unread-then-not-page_sound.ensures (
-        unread-as s.args.geometry.parameters s.args.geometry.growth (file_of s) s.args.number _ _ s.requires.ready.sized s.requires.home_value e.named_from-page.ensures
-            (in_file _ _ _ _ _ (inside e) (sym (told t) ∙ c.if-not-page_sound.true))
-      );
+          unread-as s.args.geometry.parameters s.args.geometry.growth (file_of s) s.args.number _ _ s.requires.ready.sized s.requires.home_value e.named_from-page.ensures
+          (in_file _ _ _ _ _ (inside e) (sym (told t) ∙ c.if-not-page_sound.true))
+          );
       homed_as = rw c.unread-then-not-page_sound.ensures (record { long = t.page_sound.ensures.long; homed = λ e. absurd (false≢true e) });
     }
 

@@ -1,12 +1,7 @@
 -- `own_stars::entering::enter_own` meets its contract.
-use mathlib.Core.Path.{◌≡◌, sym, ◌∙◌}
-use Prim.Native.Nat.{◌-◌, ◌≤◌, ◌<◌}
-use native.Mathlib.Omega.{arith}
-use borrow.Author.Rules.{rules}
-use borrow.Author.Tests.{not-true, not-false}
-use Rattle.hashing.proofs.Bounds.{limits}
+use Prim.Native.Nat.{◌-◌}
 use Rattle.placement.specs.Hash.{lent}
-use Rattle.own_stars.proofs.Placing.{Rolling, rolling_begun, rolling_next, rolling_stops}
+use Rattle.own_stars.proofs.Placing.{Rolling}
 use Rattle.own_stars.proofs.entering.enter_own.Given as goal
 
 abbrev pub invariant-loop-i : goal.invariant-loop-i

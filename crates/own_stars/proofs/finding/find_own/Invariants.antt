@@ -1,9 +1,6 @@
 -- `own_stars::finding::find_own` meets its contract.
-use Prim.Native.Nat.{◌-◌, ◌*◌, ◌≤◌}
-use native.Mathlib.Nat.{mul-le-mul}
-use native.Mathlib.Omega.{arith}
-use borrow.Author.Rules.{rules}
-use Rattle.own_stars.proofs.Placing.{Finding, finding-none, finding-own, finding-guest, finding-all}
+use Prim.Native.Nat.{◌-◌}
+use Rattle.own_stars.proofs.Placing.{Finding}
 use Rattle.own_stars.proofs.finding.find_own.Given as goal
 
 abbrev pub invariant-loop-i : goal.invariant-loop-i

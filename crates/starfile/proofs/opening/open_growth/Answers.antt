@@ -15,7 +15,7 @@ returns-in-Refused c =
     let f = lent c.args.separators.now c.args.numbers.now c.args.words.now c.args.owners.now in
     let second = lent c.args.secondseparators.now c.args.secondnumbers.now c.args.secondwords.now c.args.secondowners.now in
     let pool = pooled c.args.poolnumbers.now c.args.poolwords.now c.args.poolowners.now in
-    step-turned c.args.parameters c.args.growth f second pool (open_admitted c.args.parameters c.args.growth f second (cleared pool)) c.admit.ensures c.both_fit-fits.ensures c.in-Refused.is
+    record { leaves = step-turned c.args.parameters c.args.growth f second pool (open_admitted c.args.parameters c.args.growth f second (cleared pool)) c.admit.ensures c.both_fit-fits.ensures c.in-Refused.is }
 
 -- past refusals 1 and 2
 
@@ -38,6 +38,8 @@ returns c =
     let none = step-passed c.args.parameters c.args.growth f second pool c.admit.ensures c.both_fit-fits.ensures c.in_default.is in
     let done = c.open_second-opened in
     let zeroed = c.clear.ensures in
-    step-done c.args.growth second pool (open_admitted c.args.parameters c.args.growth f second (cleared pool)) none (done.ensures (cleared pool))
-    (open_pool c.args.parameters c.args.growth f second (cleared pool))
-    (cleared-is _ _ _ _ _ _ _ _ _ zeroed.pool_after zeroed.waiting_after zeroed.poolowners_after done.auto.poolnumbers done.auto.poolwords refl)
+    record {
+      leaves = step-done c.args.growth second pool (open_admitted c.args.parameters c.args.growth f second (cleared pool)) none (done.ensures (cleared pool))
+          (open_pool c.args.parameters c.args.growth f second (cleared pool))
+          (cleared-is _ _ _ _ _ _ _ _ _ zeroed.pool_after zeroed.waiting_after zeroed.poolowners_after done.auto.poolnumbers done.auto.poolwords refl);
+    }

@@ -10,8 +10,8 @@ use Rattle.starfile.proofs.reading.check.Goals as goal
 
 pub returns-then-not-steps_valid : goal.returns-then-not-steps_valid
 unfolding checked refused_by check_under
-returns-then-not-steps_valid c = leaves _ _ _ _ _ (misrecorded _ _ _ _ _ (failed _ _ c.steps_valid.ensures (ap not c.if-not-steps_valid.true)))
+returns-then-not-steps_valid c = record { leaves = leaves _ _ _ _ _ (misrecorded _ _ _ _ _ (failed _ _ c.steps_valid.ensures (ap not c.if-not-steps_valid.true))) }
 
 pub returns : goal.returns
 unfolding check_under
-returns c = rw (passed _ _ c.steps_valid.ensures (ap not c.if-not-steps_valid.false)) c.check.ensures
+returns c = record { leaves = rw (passed _ _ c.steps_valid.ensures (ap not c.if-not-steps_valid.false)) c.check.ensures }

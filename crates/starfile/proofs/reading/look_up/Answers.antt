@@ -8,8 +8,8 @@ use Rattle.starfile.proofs.reading.look_up.Goals as goal
 
 pub returns-then-not-steps_valid : goal.returns-then-not-steps_valid
 unfolding sought refused_by look_up_under
-returns-then-not-steps_valid c = rw (failed _ _ c.steps_valid.ensures (ap not c.if-not-steps_valid.true))
+returns-then-not-steps_valid c = record { answer = rw (failed _ _ c.steps_valid.ensures (ap not c.if-not-steps_valid.true)) }
 
 pub returns : goal.returns
 unfolding look_up_under
-returns c = rw (passed _ _ c.steps_valid.ensures (ap not c.if-not-steps_valid.false)) c.look_up.ensures
+returns c = record { answer = rw (passed _ _ c.steps_valid.ensures (ap not c.if-not-steps_valid.false)) c.look_up.ensures }

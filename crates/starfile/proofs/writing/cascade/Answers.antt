@@ -11,8 +11,8 @@ turn_away-requires c = failed _ _ c.at_rest.ensures (ap not c.if-not-at_rest.tru
 
 pub returns-then-not-at_rest : goal.returns-then-not-at_rest
 unfolding cascade_under
-returns-then-not-at_rest c = c.turn_away.ensures _
+returns-then-not-at_rest c = record { leaves = c.turn_away.ensures _ }
 
 pub returns : goal.returns
 unfolding cascade_under
-returns c = rw (in_turn_lem _ _ _ _ _ _ (passed _ _ c.at_rest.ensures (ap not c.if-not-at_rest.false))) c.cascade.ensures
+returns c = record { leaves = rw (in_turn_lem _ _ _ _ _ _ (passed _ _ c.at_rest.ensures (ap not c.if-not-at_rest.false))) c.cascade.ensures }

@@ -13,8 +13,8 @@ out_of_turn-requires c = failed _ _ c.at_rest.ensures (ap not c.if-not-at_rest.t
 
 pub returns-then-not-at_rest : goal.returns-then-not-at_rest
 unfolding placed file_fits_lem change_under
-returns-then-not-at_rest c = measured _ _ _ _ _ _ c.file_fits-fits.ensures (c.out_of_turn.ensures _) _
+returns-then-not-at_rest c = record { leaves = measured _ _ _ _ _ _ c.file_fits-fits.ensures (c.out_of_turn.ensures _) _ }
 
 pub returns : goal.returns
 unfolding change_under
-returns c = rw (in_turn_lem _ _ _ _ _ _ (passed _ _ c.at_rest.ensures (ap not c.if-not-at_rest.false))) c.change.ensures
+returns c = record { leaves = rw (in_turn_lem _ _ _ _ _ _ (passed _ _ c.at_rest.ensures (ap not c.if-not-at_rest.false))) c.change.ensures }

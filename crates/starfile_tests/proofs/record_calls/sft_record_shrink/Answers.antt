@@ -4,8 +4,5 @@ use Rattle.starfile_tests.proofs.record_calls.sft_record_shrink.Goals as goal
 
 pub returns : goal.returns
 returns c =
-    let stored = c.before.before.before.before.before.before.before.before.before in
-    let called = stored.before.before.before.before.before.before.before in
-    let made = called.before.before.before.before.before.before.before.before in
-    told-recorded _ c.reply_of.ensures (rw (made.record_of-kept.ensures, made.parameters_of-values.ensures) at called.shrink-recorded.ensures.leaves)
-    (rw (made.record_of-kept.ensures, made.parameters_of-values.ensures) at called.shrink-recorded.ensures.growth_after)
+    told-recorded _ c.reply_of.ensures (rw (c.record_of-kept.ensures, c.parameters_of-values.ensures) at c.shrink-recorded.ensures.leaves)
+    (rw (c.record_of-kept.ensures, c.parameters_of-values.ensures) at c.shrink-recorded.ensures.growth_after)

@@ -4,7 +4,4 @@ use Rattle.starfile_tests.proofs.record_calls.sft_record_step_growth.Goals as go
 
 pub returns : goal.returns
 returns c =
-    let stored = c.before.before.before.before.before.before.before.before.before in
-    let called = stored.before.before.before.before.before.before.before in
-    let made = called.before.before.before.before.before.before.before.before in
-    told-step _ c.reply_of.ensures (rw (made.record_of-kept.ensures, made.parameters_of-values.ensures) at called.step_growth-recorded.ensures)
+    told-step _ c.reply_of.ensures (rw (c.record_of-kept.ensures, c.parameters_of-values.ensures) at c.step_growth-recorded.ensures.leaves)

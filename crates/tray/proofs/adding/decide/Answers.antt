@@ -1,59 +1,53 @@
 -- `tray::adding::decide` meets its contract.
 use mathlib.Core.Path.{◌≡◌, sym, ap, ◌∙◌}
 use mathlib.Core.Bool.{Bool, true}
-use Prim.Native.Nat.{◌<◌}
+use Prim.Native.Nat.{ℕ, ◌<◌}
 use native.Mathlib.Omega.{arith}
 use lib.ListN.{length}
-use borrow.Author.Rules.{rules}
 use Rattle.generator.specs.Generator.{valid_multiplier}
+use Rattle.hashing.specs.declared.Parameters.{Parameters}
+use Rattle.calls.specs.declared.records.GrowthRecord.{GrowthRecord}
+use Rattle.calls.specs.declared.answers.Admission.{Admission}
+use Rattle.calls.specs.declared.answers.Admission.TheVariants.{Passed}
 use Rattle.calls.specs.Shape.{admission_number}
+use Rattle.reports.specs.declared.Report.{Report}
 use Rattle.tray.specs.Refusals.{tray_lengths, report_refusal}
 use Rattle.tray.proofs.Refused.{refused-adds, accepted-adds, report-admitted}
-use Rattle.tray.proofs.adding.decide.Lts as lts
-use Rattle.tray.proofs.adding.decide.Tie as tie
-use Rattle.tray.proofs.adding.decide.Reads as reads
 use Rattle.tray.proofs.adding.decide.Goals as goal
-use Rattle.tray.proofs.adding.decide.Goals.{Start}
 
-abbrev In_default : Type 0
-In_default = lts.After-enum_told tie.the-claims reads.Pre reads.Post
+told : (p : Parameters) (r : GrowthRecord) (count places n : ℕ) (x : Report) (fits : Bool) (a : Admission) → admission_number a ≡ report_refusal p r fits count x → fits ≡ tray_lengths places count n
+    → admission_number a ≡ report_refusal p r (tray_lengths places count n) count x
+told p r count places n x fits a e is = e ∙ ap (λ (b : Bool). report_refusal p r b count x) is
+
+-- past the refusals
+none : (p : Parameters) (r : GrowthRecord) (count places n : ℕ) (x : Report) (fits : Bool) (a : Admission) → admission_number a ≡ report_refusal p r fits count x → fits ≡ tray_lengths places count n → a ≡ Passed
+    → report_refusal p r (tray_lengths places count n) count x ≡ 0
+none p r count places n x fits a e is passed = sym (told p r count places n x fits a e is) ∙ ap admission_number passed
+
+well : (p : Parameters) (r : GrowthRecord) (count places n : ℕ) (x : Report) (fits : Bool) (a : Admission) → admission_number a ≡ report_refusal p r fits count x → fits ≡ tray_lengths places count n → a ≡ Passed
+    → (valid_multiplier p.multiplier ≡ true) × ((n ≡ 32) × (count < 256))
+well p r count places n x fits a e is passed = report-admitted p r places count n x (none p r count places n x fits a e is passed)
 
 pub returns-in-Refused : goal.returns-in-Refused
 returns-in-Refused c =
-    let k = c.before.before in
-    let s = k.before.before.before.before.before.before in
     λ reports size.
     rw c.turn_away.ensures
-    (refused-adds s.args.parameters s.args.growth reports s.args.count s.args.places s.args.filter.now s.args.report _ size
-    (sym (ap admission_number k.refusal-1.given.1)
-    ∙ (k.admit.ensures ∙ ap (λ (b : Bool). report_refusal s.args.parameters s.args.growth b s.args.count s.args.report) k.tray_fits-fits.ensures)))
-
--- past the refusals
-abbrev begun : In_default → Start
-begun c = c.before.before.before.before.before
-
-none : (c : In_default)
-    → report_refusal (begun c).args.parameters (begun c).args.growth (tray_lengths (begun c).args.places (begun c).args.count (length (begun c).args.filter.now)) (begun c).args.count (begun c).args.report ≡ 0
-none c =
-    let s = begun c in
-    sym (c.admit.ensures ∙ ap (λ (b : Bool). report_refusal s.args.parameters s.args.growth b s.args.count s.args.report) c.tray_fits-fits.ensures)
-    ∙ ap admission_number c.enum_told-1.given.1
-
-well : (c : In_default) → (valid_multiplier (begun c).args.parameters.multiplier ≡ true) × ((length (begun c).args.filter.now ≡ 32) × ((begun c).args.count < 256))
-well c =
-    let s = begun c in
-    report-admitted s.args.parameters s.args.growth s.args.places s.args.count (length s.args.filter.now) s.args.report (none c)
+    (refused-adds c.args.parameters c.args.growth reports c.args.count c.args.places c.args.filter.now c.args.report _ size
+    (sym (ap admission_number c.in-Refused.is) ∙ told _ _ _ _ _ _ _ _ c.admit.ensures c.tray_fits-fits.ensures))
 
 pub mark-requires : goal.mark-requires
-mark-requires c = ((well c.before).0, (well c.before).1.0)
+mark-requires c =
+    let w = well c.args.parameters c.args.growth c.args.count c.args.places (length c.args.filter.now) c.args.report _ _ c.admit.ensures c.tray_fits-fits.ensures c.in_default.is in
+    (w.0, w.1.0)
 
 pub overflow_add-added : goal.overflow_add-added
-overflow_add-added c = record { fits = omega (arith, (well c.before.before.before.before.before).1.1) }
+overflow_add-added c =
+    let w = well c.args.parameters c.args.growth c.args.count c.args.places (length c.args.filter.now) c.args.report _ _ c.admit.ensures c.tray_fits-fits.ensures c.in_default.is in
+    record { fits = omega (arith, w.1.1) }
 
 pub returns : goal.returns
 returns c =
-    let t = c.before.before.before.before.before.before in
-    let s = begun t in
     λ reports size.
     rw c.stored-kept.ensures
-    (accepted-adds s.args.parameters s.args.growth reports s.args.count s.args.places s.args.filter.now _ s.args.report size (none t) c.mark.ensures)
+    (accepted-adds c.args.parameters c.args.growth reports c.args.count c.args.places c.args.filter.now _ c.args.report size
+    (none _ _ _ _ _ _ _ _ c.admit.ensures c.tray_fits-fits.ensures c.in_default.is) c.mark.ensures)

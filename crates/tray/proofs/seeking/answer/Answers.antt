@@ -1,5 +1,4 @@
 -- `tray::seeking::answer` meets its contract.
-use borrow.Author.Rules.{rules}
 use Rattle.calls.specs.Answers.{sought}
 use Rattle.reports.specs.TrayCalls.{plain_answer}
 use Rattle.tray_list.specs.Latest.{or_plain}
@@ -8,14 +7,12 @@ use Rattle.tray.proofs.seeking.answer.Goals as goal
 
 pub returns-in-Refused : goal.returns-in-Refused
 unfolding sought
-returns-in-Refused c =
-    let s = c.before.before.before.before.before.before.before.before in
-    rw c.admission-1.given.1 (answered-refused _ _ (rw c.admission-1.given.1 at s.requires))
+returns-in-Refused c = rw c.in-Refused.is (answered-refused _ _ (rw c.in-Refused.is at c.requires))
 
 pub returns-then-found : goal.returns-then-found
 unfolding or_plain
-returns-then-found c = rw (c.enum_told-1.given.1, c.if-found.true) c.reported.ensures
+returns-then-found c = rw (c.in_default.is, c.if-found.true) c.reported.ensures
 
 pub returns : goal.returns
 unfolding or_plain plain_answer
-returns c = rw (c.enum_told-1.given.1, c.if-found.false) c.look_up.ensures
+returns c = rw (c.in_default.is, c.if-found.false) c.look_up.ensures.answer

@@ -27,12 +27,12 @@ slice_copy_out-kept_or_blank c =
 pub offset_bounds-reports-source : goal.offset_bounds-reports-source
 offset_bounds-reports-source c =
     let below : c.source_of-source.result < length c.loop-i.reports =
-        in_list _ c.loop-i.i c.args.from c.args.stay c.args.places (length c.args.reports.now) _ c.source_of-source.ensures c.requires.0 c.requires.1 c.loop-i.auto.reports c.loop-i-test.true in
+    in_list _ c.loop-i.i c.args.from c.args.stay c.args.places (length c.args.reports.now) _ c.source_of-source.ensures c.requires.0 c.requires.1 c.loop-i.auto.reports c.loop-i-test.true in
     omega (arith, below)
 
 pub loop-i-preserved : goal.loop-i-preserved
 unfolding no_report
 loop-i-preserved c = (
-      omega arith,
-      one_more _ _ _ _ _ _ _ (omega (arith, c.requires.1, c.loop-i-test.true)) c.loop-i.invariant.1 c.source_of-source.ensures c.kept_or_blank.ensures,
-    )
+  omega arith,
+  one_more _ _ _ _ _ _ _ (omega (arith, c.requires.1, c.loop-i-test.true)) c.loop-i.invariant.1 c.source_of-source.ensures c.kept_or_blank.ensures,
+)
