@@ -4,9 +4,9 @@ use mathlib.Core.List.{List, [], ◌∷◌, ◌++◌, map, append-nil}
 use mathlib.Core.Path.{◌≡◌, refl, sym, ap, subst, ◌∙◌}
 use lib.ListN.{length, take}
 use Rattle.core.specs.declared.option.Option.{Option}
-use Rattle.std.specs.Prelude.{None, Some, IfSome}
-use Rattle.std.specs.Io.KnownBytes.{Consumes, Appends, Keeps, IsAtEnd}
-use Rattle.std.proofs.KnownBytes.{Consumes-nil, Consumes-trans, Appends-nil, Appends-trans, Consumes-whole, Keeps-refl}
+use Rattle.std.specs.Prelude.{IfSome}
+use Rattle.std.specs.Io.KnownBytes.{Consumes, Appends, IsAtEnd}
+use Rattle.std.proofs.KnownBytes.{Consumes-nil, Consumes-trans, Appends-nil, Appends-trans, Consumes-whole}
 use Rattle.lines.specs.Grammar.{command_of, lines_of}
 use Rattle.lines.specs.Programs.{Program, Run, runs, text_for, last_of, put_out, opened, written_out, Stands}
 use Rattle.lines.specs.Replies.{TextAt}

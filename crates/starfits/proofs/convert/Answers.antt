@@ -1,6 +1,6 @@
 -- `starfits::convert` meets its contract.
 use native.Mathlib.Omega.{arith}
-use Prim.Native.Nat.{◌≤◌, ◌<◌}
+use Prim.Native.Nat.{◌<◌}
 use lib.ListN.{length}
 use mathlib.Core.Path.{sym, ◌∙◌}
 use Rattle.starfits.proofs.Keeping.{table_input, lines_input, ended}

@@ -1,6 +1,6 @@
 -- `starfits::keep_some` meets its contract.
 use native.Mathlib.Omega.{arith}
-use Prim.Native.Nat.{◌≤◌, ◌<◌}
+use Prim.Native.Nat.{◌<◌}
 use lib.ListN.{length}
 use Rattle.starfits.proofs.Keeping.{kept_all, ended}
 use Rattle.starfits.proofs.keep_some.Goals as goal

@@ -1,6 +1,6 @@
 -- `starfits::list_part` meets its contract.
 use native.Mathlib.Omega.{arith}
-use Prim.Native.Nat.{◌≤◌, ◌<◌}
+use Prim.Native.Nat.{◌≤◌}
 use lib.ListN.{length}
 use Rattle.lines.proofs.Streams.{put_is}
 use Rattle.starfits.proofs.list_part.Goals as goal

@@ -1,6 +1,6 @@
 -- `starfits::make_table` meets its contract.
 use native.Mathlib.Omega.{arith}
-use Prim.Native.Nat.{◌≤◌, ◌<◌}
+use Prim.Native.Nat.{◌≤◌}
 use lib.ListN.{length}
 use mathlib.Core.Path.{sym}
 use Rattle.lines.proofs.Streams.{put_is, serves_first}

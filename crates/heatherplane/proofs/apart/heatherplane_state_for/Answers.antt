@@ -1,4 +1,3 @@
-use borrow.Author.Rules.{rules}
 use Rattle.heatherplane.proofs.Telling.{told-choice}
 use Rattle.heatherplane.proofs.apart.heatherplane_state_for.Goals as goal
 

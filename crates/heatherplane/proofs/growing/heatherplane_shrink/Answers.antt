@@ -1,4 +1,3 @@
-use borrow.Author.Rules.{rules}
 use Rattle.heatherplane.proofs.Telling.{told-recorded}
 use Rattle.heatherplane.proofs.growing.heatherplane_shrink.Goals as goal
 

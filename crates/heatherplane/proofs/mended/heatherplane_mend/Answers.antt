@@ -1,4 +1,3 @@
-use borrow.Author.Rules.{rules}
 use Rattle.heatherplane.proofs.Telling.{told}
 use Rattle.heatherplane.proofs.mended.heatherplane_mend.Goals as goal
 

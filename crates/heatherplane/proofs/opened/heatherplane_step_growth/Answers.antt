@@ -1,4 +1,3 @@
-use borrow.Author.Rules.{rules}
 use Rattle.heatherplane.proofs.Telling.{told-step}
 use Rattle.heatherplane.proofs.opened.heatherplane_step_growth.Goals as goal
 

@@ -1,4 +1,3 @@
-use borrow.Author.Rules.{rules}
 use Rattle.heatherplane.proofs.Telling.{told}
 use Rattle.heatherplane.proofs.reading.heatherplane_check.Goals as goal
 

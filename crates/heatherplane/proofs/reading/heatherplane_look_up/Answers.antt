@@ -1,4 +1,3 @@
-use borrow.Author.Rules.{rules}
 use Rattle.heatherplane.proofs.Telling.{told_same}
 use mathlib.Core.Path.{◌∙◌}
 use Rattle.heatherplane.proofs.reading.heatherplane_look_up.Goals as goal

@@ -1,4 +1,3 @@
-use borrow.Author.Rules.{rules}
 use Rattle.heatherplane.proofs.Telling.{told-replay}
 use Rattle.heatherplane.proofs.replayed.heatherplane_replay.Goals as goal
 

@@ -1,4 +1,3 @@
-use borrow.Author.Rules.{rules}
 use Rattle.heatherplane.proofs.replies.recorded.Goals as goal
 
 pub returns : goal.returns

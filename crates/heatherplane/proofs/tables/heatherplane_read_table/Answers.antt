@@ -1,4 +1,3 @@
-use borrow.Author.Rules.{rules}
 use Rattle.heatherplane.proofs.Telling.{told}
 use Rattle.heatherplane.proofs.tables.heatherplane_read_table.Goals as goal
 

@@ -1,4 +1,3 @@
-use borrow.Author.Rules.{rules}
 use Rattle.heatherplane.proofs.Telling.{told-table}
 use Rattle.heatherplane.proofs.tables.heatherplane_write_table.Goals as goal
 

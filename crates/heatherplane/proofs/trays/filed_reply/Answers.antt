@@ -1,4 +1,3 @@
-use borrow.Author.Rules.{rules}
 use Rattle.heatherplane.proofs.trays.filed_reply.Goals as goal
 
 pub returns : goal.returns

@@ -1,4 +1,3 @@
-use borrow.Author.Rules.{rules}
 use Rattle.heatherplane.proofs.trays.found_reply.Goals as goal
 
 pub returns : goal.returns

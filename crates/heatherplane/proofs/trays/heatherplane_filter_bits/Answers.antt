@@ -1,5 +1,3 @@
-use borrow.Author.Rules.{rules}
-use mathlib.Core.Path.{◌∙◌, ap}
 use Rattle.heatherplane.proofs.trays.heatherplane_filter_bits.Goals as goal
 
 pub returns : goal.returns

@@ -1,4 +1,3 @@
-use borrow.Author.Rules.{rules}
 use Rattle.heatherplane.proofs.Telling.{told}
 use mir.Facts.{to_z-of_z}
 use Rattle.heatherplane.proofs.writing.heatherplane_cascade.Goals as goal

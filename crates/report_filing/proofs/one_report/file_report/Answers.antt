@@ -47,13 +47,13 @@ file_held-requires c =
     let positioned = passed _ _ c.position_fits.ensures (ap not c.if-not-position_fits.false) in
     let opened = not-false _ c.if-not-named.false in
     let sought : Sought c.args.geometry.parameters c.args.geometry.growth (lent c.args.separators.now c.args.numbers.now c.args.words.now c.args.owners.now) c.find_kept-named.new.pool c.args.report c.find_kept-named.result =
-      record {
-        number = numbered;
-        position = positioned;
-        named = c.find_kept-named.ensures.named_as;
-        readable = opened;
-        known = c.find_kept-named.ensures.known opened;
-      } in
+    record {
+      number = numbered;
+      position = positioned;
+      named = c.find_kept-named.ensures.named_as;
+      readable = opened;
+      known = c.find_kept-named.ensures.known opened;
+    } in
     record {
       ready = c.requires.ready;
       pooled = record { of_numbers = c.find_kept-named.auto.pool ∙ c.requires.pooled.of_numbers; of_words_lem = c.requires.pooled.of_words_lem; of_owners = c.requires.pooled.of_owners };
@@ -68,13 +68,13 @@ returns-then-report-ne0 c pool fits =
     let positioned = passed _ _ c.position_fits.ensures (ap not c.if-not-position_fits.false) in
     let opened = not-false _ c.if-not-named.false in
     let sought : Sought c.args.geometry.parameters c.args.geometry.growth (lent c.args.separators.now c.args.numbers.now c.args.words.now c.args.owners.now) c.find_kept-named.new.pool c.args.report c.find_kept-named.result =
-      record {
-        number = numbered;
-        position = positioned;
-        named = c.find_kept-named.ensures.named_as;
-        readable = opened;
-        known = c.find_kept-named.ensures.known opened;
-      } in
+    record {
+      number = numbered;
+      position = positioned;
+      named = c.find_kept-named.ensures.named_as;
+      readable = opened;
+      known = c.find_kept-named.ensures.known opened;
+    } in
     filed-nothing c.requires.ready sought pool fits c.if-named.false (ap not (ne_eqb _ 0 c.if-report-ne0.true))
 
 pub file_new-requires : goal.file_new-requires
@@ -83,13 +83,13 @@ file_new-requires c =
     let positioned = passed _ _ c.position_fits.ensures (ap not c.if-not-position_fits.false) in
     let opened = not-false _ c.if-not-named.false in
     let sought : Sought c.args.geometry.parameters c.args.geometry.growth (lent c.args.separators.now c.args.numbers.now c.args.words.now c.args.owners.now) c.find_kept-named.new.pool c.args.report c.find_kept-named.result =
-      record {
-        number = numbered;
-        position = positioned;
-        named = c.find_kept-named.ensures.named_as;
-        readable = opened;
-        known = c.find_kept-named.ensures.known opened;
-      } in
+    record {
+      number = numbered;
+      position = positioned;
+      named = c.find_kept-named.ensures.named_as;
+      readable = opened;
+      known = c.find_kept-named.ensures.known opened;
+    } in
     record {
       ready = c.requires.ready;
       pooled = record { of_numbers = c.find_kept-named.auto.pool ∙ c.requires.pooled.of_numbers; of_words_lem = c.requires.pooled.of_words_lem; of_owners = c.requires.pooled.of_owners };

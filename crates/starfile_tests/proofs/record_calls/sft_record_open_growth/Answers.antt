@@ -1,4 +1,3 @@
-use borrow.Author.Rules.{rules}
 use Rattle.starfile_tests.proofs.Telling.{told-step}
 use Rattle.starfile_tests.proofs.record_calls.sft_record_open_growth.Goals as goal
 

@@ -1,4 +1,3 @@
-use borrow.Author.Rules.{rules}
 use Rattle.starfile_tests.proofs.Telling.{told-recorded}
 use Rattle.starfile_tests.proofs.record_calls.sft_record_shrink.Goals as goal
 

@@ -1,6 +1,5 @@
 -- `tray::adding::placed_well` meets its contract.
 use mathlib.Core.Path.{ap, ◌∙◌}
-use borrow.Author.Rules.{rules}
 use borrow.Author.Tests.{eq-eqb, ne_eqb}
 use Rattle.pages.specs.Position.{valid_position}
 use Rattle.tray.proofs.adding.placed_well.Goals as goal

@@ -1,6 +1,5 @@
 -- `tray::filing::file_admitted` meets its contract. The reports are filed, the pool is cleared, the filter made anew from the rest.
 use mathlib.Core.Path.{◌≡◌, refl}
-use native.Mathlib.Omega.{arith}
 use lib.ListN.{length}
 use Rattle.outcome_answer.proofs.Pools.{cleared-is}
 use Rattle.tray.proofs.Filed.{filed-few}

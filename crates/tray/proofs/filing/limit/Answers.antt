@@ -1,5 +1,4 @@
 -- `tray::filing::limit` meets its contract.
-use mathlib.Core.Path.{◌≡◌, refl}
 use native.Mathlib.Omega.{arith}
 use borrow.Author.Tests.{eq-eqb, ne_eqb, le-leb, lt-leb}
 use Rattle.tray.specs.Shape.{limit_of}

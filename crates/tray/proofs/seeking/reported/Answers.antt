@@ -1,5 +1,4 @@
 -- `tray::seeking::reported` meets its contract.
-use borrow.Author.Rules.{rules}
 use borrow.Author.Tests.{eq-eqb, ne_eqb}
 use Rattle.calls.specs.Answers.{sought}
 use Rattle.reports.specs.Reports.{reported as Reports·reported}

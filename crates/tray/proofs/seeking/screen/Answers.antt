@@ -13,7 +13,7 @@ use Rattle.calls.specs.Calls.{file_lengths}
 use Rattle.calls.proofs.Numbers.{numbered}
 use Rattle.call_guard.specs.Turn.{record_refusal}
 use Rattle.reports.specs.TrayCalls.{tray_refusal}
-use Rattle.tray.specs.Refusals.{tray_lengths, screen_refusal, scanned}
+use Rattle.tray.specs.Refusals.{screen_refusal, scanned}
 use Rattle.tray.proofs.Refused.{record_is, screen_turned, screen_admitted, none-scanned}
 use Rattle.tray.proofs.seeking.screen.Goals as goal
 
@@ -30,7 +30,7 @@ pub returns-in-Refused : goal.returns-in-Refused
 returns-in-Refused c =
     let e = c.turn_away.ensures in (
       e.0
-      ∙ screen_turned _ _ _ _ c.in-Refused.refusal (sym (ap admission_number c.in-Refused.is) ∙ told _ _ _ _ _ _ _ _ c.admit.ensures c.all_fit-fits.ensures c.file_fits.ensures c.tray_fits.ensures),
+          ∙ screen_turned _ _ _ _ c.in-Refused.refusal (sym (ap admission_number c.in-Refused.is) ∙ told _ _ _ _ _ _ _ _ c.admit.ensures c.all_fit-fits.ensures c.file_fits.ensures c.tray_fits.ensures),
       (e.1 ∙ none-scanned _ _ _ (rw e.0 (numbered c.in-Refused.refusal)), rw e.1 (omega arith)),
     )
 

@@ -1,15 +1,11 @@
 -- `tray_filter::counting::count_ones` meets its contract.
-use mathlib.Core.Path.{◌≡◌, refl, sym, ap, ◌∙◌}
-use Prim.Native.Nat.{◌+◌, ◌-◌, ◌*◌, ◌≤◌}
+use mathlib.Core.Path.{refl, ap, ◌∙◌}
+use Prim.Native.Nat.{◌-◌}
 use native.Mathlib.Omega.{arith}
-use lib.ListN.{length, take}
 use lib.Seq.{take_all}
 use borrow.Author.Rules.{rules}
 use Rattle.reports.specs.Bits.{bits_set}
 use Rattle.tray_filter.proofs.Ones.{set_next}
-use Rattle.tray_filter.proofs.counting.count_ones.Reads as reads
-use Rattle.tray_filter.proofs.counting.count_ones.Lts as lts
-use Rattle.tray_filter.proofs.counting.ones_of.Reads as ones-of-reads
 use Rattle.tray_filter.proofs.counting.count_ones.Goals as goal
 
 -- src/counting.rt:29:5

@@ -1,9 +1,6 @@
 -- `tray_filter::counting::ones_of` meets its contract.
-use borrow.Author.Rules.{rules}
 use lib.Count.{ones-le}
 use Rattle.tray_filter.proofs.Ones.{count_ones}
-use Rattle.tray_filter.proofs.counting.ones_of.Reads as reads
-use Rattle.tray_filter.proofs.counting.ones_of.Lts as lts
 use Rattle.tray_filter.proofs.counting.ones_of.Goals as goal
 
 -- src/counting.rt:36:1

@@ -1,9 +1,5 @@
 -- `tray_filter::marking::bit_at` meets its contract.
 use Rattle.reports.specs.Bits.{bit_at}
-use borrow.Author.Rules.{rules}
-use Rattle.tray_filter.proofs.marking.bit_at.Reads as reads
-use Rattle.tray_filter.proofs.marking.bit_at.Lts as lts
-use Rattle.tray_filter.proofs.marking.is_set.Reads as is-set-reads
 use Rattle.tray_filter.proofs.marking.bit_at.Goals as goal
 
 -- src/marking.rt:42:1

@@ -1,13 +1,9 @@
 -- `tray_filter::marking::hash_bits` meets its contract.
-use mathlib.Core.Path.{◌≡◌, refl, ◌∙◌}
+use mathlib.Core.Path.{◌≡◌, ◌∙◌}
 use native.Mathlib.Omega.{arith}
 use Rattle.generator.specs.Generator.{scrambled}
 use Rattle.reports.specs.Bits.{hash_bit}
 use Rattle.tray_filter.proofs.Hashing.{first-scrambled, next-scrambled, valid-below}
-use borrow.Author.Rules.{rules}
-use Rattle.tray_filter.proofs.marking.hash_bits.Reads as reads
-use Rattle.tray_filter.proofs.marking.hash_bits.Lts as lts
-use Rattle.generator.proofs.residue.Reads as residue-reads
 use Rattle.tray_filter.proofs.marking.hash_bits.Goals as goal
 
 -- src/marking.rt:25:9

@@ -1,9 +1,6 @@
 -- `tray_filter::marking::is_set` meets its contract.
 use mathlib.Core.Path.{refl}
 use Rattle.reports.specs.Bits.{bit_of}
-use borrow.Author.Rules.{rules}
-use Rattle.tray_filter.proofs.marking.is_set.Reads as reads
-use Rattle.tray_filter.proofs.marking.is_set.Lts as lts
 use Rattle.tray_filter.proofs.marking.is_set.Goals as goal
 
 -- src/marking.rt:35:1

@@ -2,11 +2,6 @@
 use Rattle.reports.specs.Bits.{marked}
 use Rattle.reports.proofs.Bits.{length-bit_set}
 use Rattle.reports.proofs.Marks.{hash_below}
-use borrow.Author.Rules.{rules}
-use Rattle.tray_filter.proofs.marking.mark.Reads as reads
-use Rattle.tray_filter.proofs.marking.mark.Lts as lts
-use Rattle.tray_filter.proofs.marking.hash_bits.Reads as hash-bits-reads
-use Rattle.tray_filter.proofs.marking.set_bit.Reads as set-bit-reads
 use Rattle.tray_filter.proofs.marking.mark.Goals as goal
 
 -- src/marking.rt:72:5

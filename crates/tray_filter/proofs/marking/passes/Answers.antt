@@ -2,11 +2,6 @@
 use borrow.Author.Tests.{not-true, not-false}
 use Rattle.reports.specs.Bits.{passes as Bits·passes}
 use Rattle.reports.proofs.Marks.{hash_below}
-use borrow.Author.Rules.{rules}
-use Rattle.tray_filter.proofs.marking.passes.Reads as reads
-use Rattle.tray_filter.proofs.marking.passes.Lts as lts
-use Rattle.tray_filter.proofs.marking.bit_at.Reads as bit-at-reads
-use Rattle.tray_filter.proofs.marking.hash_bits.Reads as hash-bits-reads
 use mathlib.Core.Path.{ap}
 use mathlib.Core.Bool.{not}
 use Rattle.tray_filter.proofs.marking.passes.Goals as goal

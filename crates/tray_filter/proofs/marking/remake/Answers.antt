@@ -1,16 +1,12 @@
 -- `tray_filter::marking::remake` meets its contract.
 use mathlib.Core.Path.{◌≡◌, refl, sym, ◌∙◌}
-use Prim.Native.Nat.{◌-◌, ◌≤◌, ◌<◌}
+use Prim.Native.Nat.{◌-◌, ◌<◌}
 use native.Mathlib.Omega.{arith}
-use lib.ListN.{length, take, drop, get_or, length-replicate}
+use lib.ListN.{length, get_or, length-replicate}
 use borrow.Author.Rules.{rules}
-use Rattle.reports.specs.Reports.{no_report, filter_of}
-use Rattle.reports.proofs.Marks.{length_marked, length-filter_of}
+use Rattle.reports.specs.Reports.{no_report}
+use Rattle.reports.proofs.Marks.{length_marked}
 use Rattle.tray_filter.proofs.Anew.{none-marked, one-marked}
-use Rattle.tray_filter.proofs.marking.remake.Reads as reads
-use Rattle.tray_filter.proofs.marking.remake.Lts as lts
-use Rattle.buffers.proofs.fill_64.Reads as fill-64-reads
-use Rattle.tray_filter.proofs.marking.mark.Reads as mark-reads
 use Rattle.tray_filter.proofs.marking.remake.Goals as goal
 
 -- src/marking.rt:100:5

@@ -1,9 +1,5 @@
 -- `tray_filter::marking::set_bit` meets its contract.
 use Rattle.reports.specs.Bits.{bit_set}
-use borrow.Author.Rules.{rules}
-use Rattle.tray_filter.proofs.marking.set_bit.Reads as reads
-use Rattle.tray_filter.proofs.marking.set_bit.Lts as lts
-use Rattle.tray_filter.proofs.marking.with_bit.Reads as with-bit-reads
 use Rattle.tray_filter.proofs.marking.set_bit.Goals as goal
 
 -- src/marking.rt:59:1

@@ -3,10 +3,6 @@ use mathlib.Core.Path.{sym, ◌∙◌}
 use Rattle.generator.proofs.Numbers.{shifted}
 use Rattle.reports.specs.Bits.{with_bit_lem}
 use Rattle.tray_filter.proofs.Hashing.{added-below}
-use borrow.Author.Rules.{rules}
-use Rattle.tray_filter.proofs.marking.with_bit.Reads as reads
-use Rattle.tray_filter.proofs.marking.with_bit.Lts as lts
-use Rattle.tray_filter.proofs.marking.is_set.Reads as is-set-reads
 use Rattle.tray_filter.proofs.marking.with_bit.Goals as goal
 
 -- src/marking.rt:54:9

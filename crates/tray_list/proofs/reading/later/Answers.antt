@@ -1,7 +1,6 @@
 -- `tray_list::reading::later` meets its contract.
 use mathlib.Core.Path.{ap, ◌∙◌}
 use mathlib.Core.Bool.{cond}
-use borrow.Author.Rules.{rules}
 use Rattle.tray_list.specs.declared.reading.Latest.{Latest}
 use Rattle.tray_list.specs.Latest.{later as Latest·later}
 use Rattle.tray_list.proofs.reading.later.Goals as goal

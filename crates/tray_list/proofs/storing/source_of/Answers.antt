@@ -1,5 +1,4 @@
 -- `tray_list::storing::source_of` meets its contract.
-use borrow.Author.Rules.{rules}
 use borrow.Author.Tests.{lt-ltb, le-ltb}
 use native.Mathlib.Omega.{arith}
 use Rattle.tray_list.specs.Closing.{came_from}
