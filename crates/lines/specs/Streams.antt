@@ -1,6 +1,5 @@
 -- What a program does with its input and its output, where their bytes are known.
-use Rattle.std.specs.Prelude.{ℕ, List, ◌≡◌}
-use Rattle.core.specs.declared.option.Option.{Option}
+use Rattle.std.specs.Prelude.{Option, ℕ, List, ◌≡◌}
 use Rattle.std.specs.Io.KnownBytes.{Consumes, Appends}
 use Rattle.lines.specs.Programs.{Program, Run, runs, text_for}
 

@@ -1,6 +1,5 @@
 -- What is kept of a table while it is read, where the input's bytes are known.
-use Rattle.std.specs.Prelude.{ℕ, List, ◌++◌, take, ◌≡◌}
-use Rattle.core.specs.declared.option.Option.{Option}
+use Rattle.std.specs.Prelude.{Option, ℕ, List, ◌++◌, take, ◌≡◌}
 use Rattle.std.specs.Io.KnownBytes.{Consumes}
 use Rattle.catalogues.specs.Listing.{kept_table}
 
