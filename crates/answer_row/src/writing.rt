@@ -1,7 +1,7 @@
 // The answer of a call as eight numbers.
 ghost use Rattle.std.specs.Prelude.{◌≡◌, ◌+◌, ◌≤◌, length};
 ghost use Rattle.std.proofs.Math.Seq.{paste};
-ghost use Rattle.answer_row.specs.Rows.{bit, shifted, encoded};
+ghost use Rattle.answer_row.specs.Rows.{shifted, encoded};
 
 use calls::answers::Answer;
 
@@ -10,21 +10,16 @@ pub fn write(answers: &mut [u32], at: usize, answer: Answer)
     requires { at + 8 ≤ length answers.old }
     ensures { answers.new ≡ paste answers.old at (encoded answer) 8 }
 {
-    let row = encode(answer);
-    let mut i = 0;
-    while i < 8 {
-        answers[at + i] = row[i];
-        i += 1;
-    }
+    answers[at..at + 8].copy_from_slice(&encode(answer));
 }
 
 fn encode(answer: Answer) -> [u32; 8]
     ensures { result ≡ encoded answer }
 {
-    let found = number(answer.found);
+    let found = u32::from(answer.found);
     let position = answer.position;
     let dec = unsigned(position.dec);
-    let due = number(answer.due);
+    let due = u32::from(answer.due);
     [
         answer.refusal,
         answer.page,
@@ -35,12 +30,6 @@ fn encode(answer: Answer) -> [u32; 8]
         due,
         answer.stars,
     ]
-}
-
-fn number(flag: bool) -> u32
-    ensures { result ≡ bit flag }
-{
-    if flag { 1 } else { 0 }
 }
 
 // Any signed number of 32 bits, raised by 2^31.

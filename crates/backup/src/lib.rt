@@ -74,12 +74,10 @@ fn mark_pages(geometry: Geometry, old: &[u8], new: &[u8], marks: &mut [u8])
         group: false,
         added: false,
     };
-    let mut page = 0;
-    while page < marks.len() {
+    for page in 0..marks.len() {
         let here = reached(geometry, run, page as u32);
         marks[page] = mark_of(here);
         run = passed(geometry.parameters, here, old[page], new[page]);
-        page += 1;
     }
 }
 
@@ -90,30 +88,16 @@ fn reached(geometry: Geometry, run: Running, page: u32) -> Running
     ensures { (result.group ≡ (expands geometry.parameters geometry.growth page || run.group))
         × (result.added ≡ (eqb page (page_count geometry.parameters geometry.growth) || run.added)) }
 {
-    let group = either(hashing::expands(geometry, page), run.group);
-    let added = either(page == geometry.highest_address() + 1, run.added);
-    Running { group, added }
-}
-
-fn either(one: bool, other: bool) -> bool
-    ensures { result ≡ (one || other) }
-{
-    if one {
-        return true;
+    Running {
+        group: hashing::expands(geometry, page) || run.group,
+        added: page == geometry.highest_address() + 1 || run.added,
     }
-    other
 }
 
 fn mark_of(run: Running) -> u8
     ensures { result ≡ mark (run.group || run.added) }
 {
-    if run.group {
-        return 1;
-    }
-    if run.added {
-        return 1;
-    }
-    0
+    u8::from(run.group || run.added)
 }
 
 // The stretches that go on past a page, by its separators before and after.
@@ -124,26 +108,9 @@ fn passed(parameters: Parameters, run: Running, old: u8, new: u8) -> Running
 {
     let top = placement::top_of(parameters);
     let ended = old == top;
-    let settled = both(ended, new == top);
-    let group = goes_on(run.group, ended);
-    let added = goes_on(run.added, settled);
-    Running { group, added }
-}
-
-fn both(one: bool, other: bool) -> bool
-    ensures { result ≡ (one && other) }
-{
-    if one {
-        return other;
+    let settled = ended && new == top;
+    Running {
+        group: run.group && !ended,
+        added: run.added && !settled,
     }
-    false
-}
-
-fn goes_on(runs: bool, ends: bool) -> bool
-    ensures { result ≡ (runs && not ends) }
-{
-    if runs {
-        return !ends;
-    }
-    false
 }

@@ -1,12 +1,12 @@
 -- Loops that write a part of a list item by item: after j turns the list is `paste d at s j`.
 use mathlib.Core.Path.{◌≡◌, refl, sym, ap, ◌∙◌}
 use mathlib.Core.List.{List, ◌++◌}
-use Prim.Native.Nat.{ℕ, suc, ◌+◌, ◌≤◌, ◌<◌}
+use Prim.Native.Nat.{ℕ, suc, ◌+◌, ◌-◌, ◌≤◌, ◌<◌}
 use native.Mathlib.Nat.{le_antisymm}
 use native.Mathlib.Numerals.{add-one}
 use native.Mathlib.Omega.{arith}
 use lib.ListN.{length, get_or, set, take, drop, length-set, length-drop}
-use lib.Seq.{paste, paste-zero, paste-suc, get_or-drop, get_or_at, length_paste_head, drop-cons}
+use lib.Seq.{drop-paste, paste, paste-zero, paste-suc, get_or-drop, get_or_at, length_paste_head, drop-cons}
 
 -- j items of s written from `at` on; the length is kept
 pub record Copied (d : List ℕ) (at : ℕ) (s e : List ℕ) (j : ℕ) : Type 0 where
@@ -46,3 +46,25 @@ unread d at s e j hd hs h =
     ∙ rw (drop-cons d (at + j) 0)
     (get_or_at (take at d ++ take j s) (get_or d (at + j) 0) (drop (suc (at + j)) d) 0 (at + j)
     (length_paste_head d at s j (omega arith) hs))
+
+-- an item moved down, which none of those written before it was
+pub moved_next : {A : Type 0} (d e : List A) (to from j : ℕ) (x : A) → to ≤ from → from + j < length d → e ≡ paste d to (drop from d) j → x ≡ get_or e (from + j) x
+    → set e (to + j) x ≡ paste d to (drop from d) (j + 1)
+moved_next {A} d e to from j x down h is read =
+    ap (λ (l : List A). set l (to + j) x) is
+    ∙ ap (λ (a : A). set (paste d to (drop from d) j) (to + j) a) here
+    ∙ rw (add-one j) (paste-suc d to (drop from d) j x (omega arith) (omega (arith, length-drop from d)))
+  where
+    ahead : from + j ≡ to + j + (from - to)
+    ahead = omega arith
+
+    here : x ≡ get_or (drop from d) j x
+    here =
+        read
+        ∙ ap (λ (l : List A). get_or l (from + j) x) is
+        ∙ ap (λ (i : ℕ). get_or (paste d to (drop from d) j) i x) ahead
+        ∙ sym (get_or-drop (to + j) (paste d to (drop from d) j) (from - to) x)
+        ∙ ap (λ (l : List A). get_or l (from - to) x) (drop-paste d to (drop from d) j (omega arith) (omega (arith, length-drop from d)))
+        ∙ get_or-drop (to + j) d (from - to) x
+        ∙ ap (λ (i : ℕ). get_or d i x) (sym ahead)
+        ∙ sym (get_or-drop from d j x)

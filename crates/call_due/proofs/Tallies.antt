@@ -1,5 +1,5 @@
 -- The loops that count stars, scan for the last one and fill a slice with one value.
-use mathlib.Core.Path.{◌≡◌, refl, ap, ◌∙◌}
+use mathlib.Core.Path.{◌≡◌, refl, sym, ap, ◌∙◌}
 use mathlib.Core.Bool.{Bool, true, false, cond}
 use mathlib.Core.List.{List, [], ◌∷◌}
 use Prim.Native.Nat.{ℕ, zero, suc, ◌+◌, ◌-◌, ◌≤◌, ◌<◌}
@@ -8,7 +8,8 @@ use native.Mathlib.Nat.{zero-add}
 use native.Mathlib.Omega.{arith}
 use lib.Dec.{eqb}
 use lib.ListN.{length, get_or, take, drop, drop_of_length-le}
-use lib.Seq.{drop-cons, drop-drop, drop-length}
+use lib.Seq.{drop-cons, drop-drop, drop-length, take-take, take-length}
+use Rattle.std.proofs.lemmas.List.{drop-take}
 use borrow.Author.Tests.{eqb-true, eq-eqb, ne_eqb}
 use Rattle.calls.specs.Due.{stars}
 use Rattle.call_due.specs.Used.{Blank}
@@ -78,6 +79,11 @@ stars-none (n ∷ ns) i e = go (eqb n 0) refl i e (λ j h. stars-none ns j h)
     go true q (suc i) e more = more i e
     go false q i e more = omega arith
 
+-- the items up to `rest` ended
+pub record Trimmed (l rest : List ℕ) : Type 0 where
+  pub blank : Blank l (length rest)
+  pub front : rest ≡ take (length rest) l
+
 pub blank-all : (l : List ℕ) → Blank l (length l)
 unfolding stars
 blank-all l = record { within = omega arith; rest = rw drop-length }
@@ -106,3 +112,26 @@ module _ (l : List ℕ) (n : ℕ) (b : Blank l n) where
             rw (drop-cons l (n - 1) 0 (omega arith), eq-eqb (get_or l (n - 1) 0) 0 e)
             (ap (λ (k : ℕ). stars (drop k l)) s ∙ b.rest);
       }
+
+pub trimmed-none : (l : List ℕ) → Trimmed l l
+trimmed-none l = record { blank = blank-all l; front = sym (take-length l) }
+
+pub trimmed-block : (l rest front : List ℕ) → Trimmed l rest → front ≡ take (length rest - 128) rest → length front + 128 ≡ length rest → stars (drop (length rest - 128) rest) ≡ 0
+    → Trimmed l front
+trimmed-block l rest front t e n z =
+    let s : length rest - 128 ≡ length front = omega arith in
+    let whole : length rest ≡ length front + 128 = sym n in
+    let b : length rest - length front ≡ 128 = omega arith in
+    record {
+      blank =
+          blank-block l (length rest) t.blank (length front) (omega arith)
+          (rw b
+          (ap stars (sym (drop-take (length front) 128 l) ∙ ap (λ (k : ℕ). drop (length front) (take k l)) n ∙ ap (λ (r : List ℕ). drop (length front) r) (sym t.front))
+          ∙ ap (λ (k : ℕ). stars (drop k rest)) (sym s)
+          ∙ z));
+      front =
+          e
+          ∙ ap (λ (k : ℕ). take k rest) s
+          ∙ ap (λ (r : List ℕ). take (length front) r) t.front
+          ∙ take-take (length front) (length rest) l (omega arith);
+    }

@@ -7,7 +7,7 @@ ghost use Rattle.calls.specs.Due.{stars};
 ghost use Rattle.call_due.specs.Used.{Blank, Reaches, Used};
 
 use call_guard::{file_fits, guard};
-use calls::answers::{Admission, Due};
+use calls::answers::Due;
 use hashing::{Geometry, Growth, Parameters};
 
 pub fn due(
@@ -27,7 +27,7 @@ pub fn due(
         words.len(),
         owners.len(),
     );
-    if let Admission::Refused(refusal) = guard(parameters, growth, fits) {
+    if let Err(refusal) = guard(parameters, growth, fits) {
         return Due::Refused(refusal);
     }
     let geometry = Geometry { parameters, growth };
@@ -75,12 +75,10 @@ fn used(numbers: &[u32]) -> usize
     requires { length numbers.now ≤ 32768 }
     ensures { Used numbers.now result }
 {
-    let mut end = trimmed(numbers);
-    while 0 < end {
-        if numbers[end - 1] != 0 {
-            return end;
+    for i in (0..trimmed(numbers)).rev() {
+        if numbers[i] != 0 {
+            return i + 1;
         }
-        end -= 1;
     }
     0
 }
@@ -90,15 +88,14 @@ fn trimmed(numbers: &[u32]) -> usize
     requires { length numbers.now ≤ 32768 }
     ensures { Blank numbers.now result }
 {
-    let mut end = numbers.len();
-    while 128 <= end {
-        let start = end - 128;
-        if occupied(&numbers[start..end]) != 0 {
-            return end;
+    let mut rest = numbers;
+    while let Some((front, block)) = rest.split_last_chunk::<128>() {
+        if occupied(block) != 0 {
+            break;
         }
-        end = start;
+        rest = front;
     }
-    end
+    rest.len()
 }
 
 // How many numbers are not 0, by those that are: a vector of equal lanes is subtracted as it comes.
@@ -107,12 +104,10 @@ fn occupied(numbers: &[u32]) -> u32
     ensures { result ≡ stars numbers.now }
 {
     let mut empty: u32 = 0;
-    let mut i = 0;
-    while i < numbers.len() {
-        if numbers[i] == 0 {
+    for number in numbers {
+        if *number == 0 {
             empty += 1;
         }
-        i += 1;
     }
     numbers.len() as u32 - empty
 }

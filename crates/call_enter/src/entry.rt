@@ -13,7 +13,7 @@ ghost use Rattle.placement.specs.Lent.{held, before, after};
 ghost use Rattle.calls.specs.Lent.{pool_before, pool_after_lem};
 
 use call_guard::{all_fit, guard};
-use calls::answers::{Admission, Placed, Refusal};
+use calls::answers::{Placed, Refusal};
 use decision::Newcomer;
 use hashing::{Geometry, Growth, Parameters};
 use named_page::find_kept;
@@ -160,7 +160,7 @@ fn enter_by(
         poolwords.len(),
         poolowners.len(),
     );
-    if let Admission::Refused(refusal) = guard(parameters, growth, fits) {
+    if let Err(refusal) = guard(parameters, growth, fits) {
         return Placed::Refused(refusal, 0);
     }
     if !pages::position::number_valid(number) {

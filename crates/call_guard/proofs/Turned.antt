@@ -8,8 +8,7 @@ use borrow.Author.Tests.{eqb-true}
 use Rattle.hashing.specs.declared.Parameters.{Parameters}
 use Rattle.hashing.specs.declared.Growth.{Growth}
 use Rattle.placement.specs.File.{File}
-use Rattle.calls.specs.declared.answers.Admission.{Admission}
-use Rattle.calls.specs.declared.answers.Admission.TheVariants.{Passed, Refused}
+use Rattle.std.specs.Prelude.{Result, Ok, Err}
 use Rattle.calls.specs.declared.answers.Answer.{Answer}
 use Rattle.calls.specs.declared.answers.Grown.{Grown}
 use Rattle.calls.specs.declared.answers.Refusal.{Refusal}
@@ -142,10 +141,10 @@ module _ (p : Parameters) (r : GrowthRecord) (lengths : Bool) (f : File) (pool :
       let v = steps_good p r lengths e in
       rw (v, open_else p r rest v, sym (good-steps p r lengths v) ∙ e)
 
-  pub turned : {a : Admission} {fits : Bool} {x : Refusal} → at_rest_lem r ≡ false → admission_number a ≡ record_refusal p r fits → fits ≡ lengths → a ≡ Refused x → Leaves (unless_open p r lengths f pool after) (refused_by x 0) f pool
+  pub turned : {a : Result (Unit {0}) Refusal} {fits : Bool} {x : Refusal} → at_rest_lem r ≡ false → admission_number a ≡ record_refusal p r fits → fits ≡ lengths → a ≡ Err x → Leaves (unless_open p r lengths f pool after) (refused_by x 0) f pool
   turned rest e l t = leaves _ _ _ _ _ (not_admitted rest _ (sym (ap admission_number t) ∙ (e ∙ ap (record_refusal p r) l)))
 
-  pub held_up : {a : Admission} {fits : Bool} (left : Pool) → at_rest_lem r ≡ false → admission_number a ≡ record_refusal p r fits → fits ≡ lengths → a ≡ Passed → left ≡ cleared pool
+  pub held_up : {a : Result (Unit {0}) Refusal} {fits : Bool} (left : Pool) → at_rest_lem r ≡ false → admission_number a ≡ record_refusal p r fits → fits ≡ lengths → a ≡ Ok tt → left ≡ cleared pool
       → Leaves (unless_open p r lengths f pool after) (refused_by OutOfTurn 0) f left
   unfolding refused_by
   held_up left rest e l t zeroed =

@@ -10,36 +10,36 @@ ghost use Rattle.calls.specs.Records.{valid_steps};
 ghost use Rattle.call_guard.specs.Turn.{at_rest_lem, record_refusal, TurnedAway, restored};
 
 use crate::lending::{all_fit, guard};
-use calls::answers::{Admission, Grown, Placed, Refusal};
+use calls::answers::{Grown, Placed, Refusal};
 use calls::records::{GrowthRecord, Recorded};
 use hashing::Parameters;
 
 // "the steps done, below M and 0 if none is open"
+#[tactic(auto, unfolding(calls::specs::Records::valid_steps))]
 pub fn steps_valid(parameters: Parameters, growth: GrowthRecord) -> bool
     ensures { result ≡ valid_steps parameters growth }
 {
     if growth.growing {
-        return growth.steps < parameters.pages;
+        growth.steps < parameters.pages
+    } else {
+        growth.steps == 0
     }
-    growth.steps == 0
 }
 
 // Nothing is open and the record is valid: a call that writes the file goes on.
+#[tactic(auto, unfolding(crate::specs::Turn::at_rest_lem))]
 pub fn at_rest(growth: GrowthRecord) -> bool
     ensures { result ≡ at_rest_lem growth }
 {
-    if growth.growing {
-        return false;
-    }
-    growth.steps == 0
+    !growth.growing && growth.steps == 0
 }
 
 // Refusals 1 and 2 under a record. `fits`: what is lent is as long as the parameters say.
-pub fn admit(parameters: Parameters, growth: GrowthRecord, fits: bool) -> Admission
+pub fn admit(parameters: Parameters, growth: GrowthRecord, fits: bool) -> Result<(), Refusal>
     ensures { admission_number result ≡ record_refusal parameters growth fits }
 {
     if !steps_valid(parameters, growth) {
-        return Admission::Refused(Refusal::BadParameters);
+        return Err(Refusal::BadParameters);
     }
     guard(parameters, growth.state, fits)
 }
@@ -50,8 +50,8 @@ pub fn out_of_turn(parameters: Parameters, growth: GrowthRecord, fits: bool) -> 
     ensures { (f : File) → TurnedAway parameters growth fits f unpooled (refused_by result 0) unpooled }
 {
     match admit(parameters, growth, fits) {
-        Admission::Passed => Refusal::OutOfTurn,
-        Admission::Refused(refusal) => refusal,
+        Ok(()) => Refusal::OutOfTurn,
+        Err(refusal) => refusal,
     }
 }
 
@@ -82,7 +82,7 @@ pub fn turn_away(
         poolwords.len(),
         poolowners.len(),
     );
-    if let Admission::Refused(refusal) = admit(parameters, growth, fits) {
+    if let Err(refusal) = admit(parameters, growth, fits) {
         return Placed::Refused(refusal, 0);
     }
     plan_transfer::clear(poolnumbers, poolwords, poolowners);

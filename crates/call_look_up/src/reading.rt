@@ -5,7 +5,7 @@ ghost use Rattle.calls.specs.Answers.{unpooled, sought};
 ghost use Rattle.calls.specs.Calls.{look_up_of};
 
 use call_guard::{file_fits, guard};
-use calls::answers::{Admission, Found, Refusal};
+use calls::answers::{Found, Refusal};
 use hashing::{Geometry, Growth, Parameters};
 use named_page::find;
 
@@ -28,7 +28,7 @@ pub fn look_up(
         words.len(),
         owners.len(),
     );
-    if let Admission::Refused(refusal) = guard(parameters, growth, fits) {
+    if let Err(refusal) = guard(parameters, growth, fits) {
         return Found::Refused(refusal, 0);
     }
     if !pages::position::number_valid(number) {

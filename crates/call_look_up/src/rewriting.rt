@@ -5,7 +5,7 @@ ghost use Rattle.calls.specs.Stores.{change_stopped_of};
 ghost use Rattle.placement.specs.Lent.{held};
 
 use call_guard::{file_fits, guard, may_alter};
-use calls::answers::{Admission, Placed, Refusal};
+use calls::answers::{Placed, Refusal};
 use hashing::{Geometry, Growth, Parameters};
 use named_page::find;
 use pages::position::Position;
@@ -62,7 +62,7 @@ pub fn change_stopped(
         words.len(),
         owners.len(),
     );
-    if let Admission::Refused(refusal) = guard(parameters, growth, fits) {
+    if let Err(refusal) = guard(parameters, growth, fits) {
         return Placed::Refused(refusal, 0);
     }
     if !pages::position::number_valid(number) {

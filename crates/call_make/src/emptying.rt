@@ -7,7 +7,7 @@ ghost use Rattle.calls.specs.Calls.{make_of, empty_file_lem};
 ghost use Rattle.placement.specs.Lent.{held, before, after};
 
 use call_guard::{file_fits, guard};
-use calls::answers::{Admission, Grown, Placed};
+use calls::answers::{Grown, Placed};
 use hashing::{Growth, Parameters};
 
 // The file is left as document 01's empty file. No growth state is read: a new file's is (0, 0).
@@ -33,7 +33,7 @@ pub fn make(
         words.len(),
         owners.len(),
     );
-    if let Admission::Refused(refusal) = guard(parameters, growth, fits) {
+    if let Err(refusal) = guard(parameters, growth, fits) {
         return Grown {
             answer: Placed::Refused(refusal, 0),
             growth,
@@ -59,6 +59,6 @@ pub fn empty(
     ensures { after separators numbers words owners ≡ empty_file_lem parameters }
 {
     let top = placement::top_of(parameters);
-    buffers::fill_8(separators, top);
+    buffers::fill(separators, top);
     plan_transfer::clear(numbers, words, owners);
 }

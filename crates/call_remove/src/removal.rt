@@ -12,7 +12,7 @@ ghost use Rattle.placement.specs.Lent.{held, before, after};
 ghost use Rattle.calls.specs.Lent.{pool_before, pool_after_lem};
 
 use call_guard::{all_fit, guard, may_alter};
-use calls::answers::{Admission, Placed, Refusal};
+use calls::answers::{Placed, Refusal};
 use hashing::{Geometry, Growth, Parameters};
 use named_page::find_kept;
 use outcome_answer::placed_from;
@@ -79,7 +79,7 @@ pub fn remove_stopped(
         poolwords.len(),
         poolowners.len(),
     );
-    if let Admission::Refused(refusal) = guard(parameters, growth, fits) {
+    if let Err(refusal) = guard(parameters, growth, fits) {
         return Placed::Refused(refusal, 0);
     }
     if !pages::position::number_valid(number) {

@@ -11,7 +11,7 @@ ghost use Rattle.placement.specs.Lent.{held, before, after};
 ghost use Rattle.calls.specs.Lent.{pool_before, pool_after_lem};
 
 use call_guard::{all_fit, guard};
-use calls::answers::{Admission, Grown, Refusal};
+use calls::answers::{Grown, Refusal};
 use hashing::{Geometry, Growth, Parameters};
 use outcome_answer::{grown_by, unmoved};
 
@@ -102,7 +102,7 @@ fn regrow(
         poolwords.len(),
         poolowners.len(),
     );
-    if let Admission::Refused(refusal) = guard(parameters, growth, fits) {
+    if let Err(refusal) = guard(parameters, growth, fits) {
         return unmoved(growth, refusal);
     }
     let answer = regrow_file(

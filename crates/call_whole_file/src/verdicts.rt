@@ -7,7 +7,7 @@ ghost use Rattle.call_whole_file.specs.Outcomes.{VerdictSmall, verdict_checked_l
 ghost use Rattle.calls.specs.Lent.{pool_before, pool_after_lem};
 
 use call_guard::{all_fit, guard};
-use calls::answers::{Admission, Checked, Refusal};
+use calls::answers::{Checked, Refusal};
 use hashing::{Geometry, Growth, Parameters};
 use rule_check::Verdict;
 
@@ -36,7 +36,7 @@ pub fn check(
         poolwords.len(),
         poolowners.len(),
     );
-    if let Admission::Refused(refusal) = guard(parameters, growth, fits) {
+    if let Err(refusal) = guard(parameters, growth, fits) {
         return Checked::Refused(refusal, 0);
     }
     let table = generator::first_multipliers(parameters.multiplier);

@@ -33,8 +33,7 @@ use Rattle.calls.specs.declared.answers.Refusal.TheVariants.{
   BadContents,
   OutOfTurn,
 }
-use Rattle.calls.specs.declared.answers.Admission.{Admission}
-use Rattle.calls.specs.declared.answers.Admission.TheVariants.{Passed, Refused}
+use Rattle.std.specs.Prelude.{Result, Ok, Err}
 use Rattle.calls.specs.Answers.{Answer, After, Pool, Leaves, refusal_number, refused_by}
 use Rattle.calls.specs.Shape.{admission_number}
 use Rattle.calls.specs.Calls.{unless, or_else, unlent, guarded, unchanged, file_fits_lem, pool_fits_lem}
@@ -109,10 +108,10 @@ unlent-facts p g lengths = go (valid_parameters p && valid_growth p g) lengths
     go true false e = absurd (omega arith)
     go false t e = absurd (omega arith)
 
-pub refusal_is : (p : Parameters) (g : Growth) {fits lengths : Bool} {a : Admission} {r : Refusal} → admission_number a ≡ unlent p g fits → fits ≡ lengths → a ≡ Refused r → refusal_number r ≡ unlent p g lengths
+pub refusal_is : (p : Parameters) (g : Growth) {fits lengths : Bool} {a : Result (Unit {0}) Refusal} {r : Refusal} → admission_number a ≡ unlent p g fits → fits ≡ lengths → a ≡ Err r → refusal_number r ≡ unlent p g lengths
 refusal_is p g e l t = sym (ap admission_number t) ∙ (e ∙ ap (unlent p g) l)
 
-pub none_is : (p : Parameters) (g : Growth) {fits lengths : Bool} {a : Admission} → admission_number a ≡ unlent p g fits → fits ≡ lengths → a ≡ Passed → unlent p g lengths ≡ 0
+pub none_is : (p : Parameters) (g : Growth) {fits lengths : Bool} {a : Result (Unit {0}) Refusal} → admission_number a ≡ unlent p g fits → fits ≡ lengths → a ≡ Ok tt → unlent p g lengths ≡ 0
 none_is p g e l t = sym (ap (unlent p g) l) ∙ (sym e ∙ ap admission_number t)
 
 module _ (g : Growth) (f : File) (pool : Pool) (after : After) where

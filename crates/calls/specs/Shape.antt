@@ -3,8 +3,8 @@ use Rattle.std.specs.Prelude.{◌≡◌, Bool, List, ℕ, ◌+◌}
 use Rattle.hashing.specs.declared.Growth.{Growth}
 use Rattle.placement.specs.File.{File}
 use Rattle.calls.specs.declared.answers.Answer.{Answer}
-use Rattle.calls.specs.declared.answers.Admission.{Admission}
-use Rattle.calls.specs.declared.answers.Admission.TheVariants.{Passed, Refused as TurnedAway}
+use Rattle.std.specs.Prelude.{Result, Ok, Err}
+use Rattle.calls.specs.declared.answers.Refusal.{Refusal}
 use Rattle.hashing.specs.declared.Parameters.{Parameters}
 use Rattle.calls.specs.Answers.{After, refusal_number}
 use Rattle.calls.specs.Spots.{first_spot, ruled}
@@ -15,9 +15,9 @@ use Rattle.calls.specs.Stores.{stored_file, store_order, stopped_after}
 use Rattle.calls.specs.Due.{stars, exceeds}
 
 -- 0 if the test that a call begins with is passed
-abbrev pub admission_number : Admission → ℕ
-admission_number Passed = 0
-admission_number (TurnedAway r) = refusal_number r
+abbrev pub admission_number : Result (Unit {0}) Refusal → ℕ
+admission_number (Ok done) = 0
+admission_number (Err r) = refusal_number r
 
 -- the same of the answer and the file alone
 pub record Stores (after : After) (answer : Answer) (file : File) : Type 0 where

@@ -28,13 +28,6 @@ pub enum Refusal {
     OutOfTurn,
 }
 
-// What the test of refusals 1 and 2 says, with which every call begins.
-#[derive(Clone, Copy)]
-pub enum Admission {
-    Passed,
-    Refused(Refusal),
-}
-
 // A page, and "the place found on the page first named (0 if refused before that search)": document 02 (ii).
 #[derive(Clone, Copy)]
 pub enum Placed {
@@ -97,13 +90,9 @@ pub fn sought_answer(answer: Found) -> Answer
 {
     match answer {
         Found::At(page, place, position) => Answer {
-            refusal: 0,
-            page,
-            place,
             found: true,
             position,
-            due: false,
-            stars: 0,
+            ..at_spot(0, page, place)
         },
         Found::Absent(page, place) => at_spot(0, page, place),
         Found::Refused(refusal, place) => refused_answer(refusal, place),
@@ -130,61 +119,34 @@ pub fn checked_answer(answer: Checked) -> Answer
 }
 
 // A refusal's number, and its page.
-#[derive(Clone, Copy)]
-struct Numbered {
-    number: u32,
-    page: u32,
-}
-
-fn number_of(refusal: Refusal) -> Numbered
-    ensures { (result.number ≡ refusal_number refusal) × (result.page ≡ refusal_page refusal) }
+fn number_of(refusal: Refusal) -> (u32, u32)
+    ensures { (result.0 ≡ refusal_number refusal) × (result.1 ≡ refusal_page refusal) }
 {
     match refusal {
-        Refusal::BadParameters => Numbered { number: 1, page: 0 },
-        Refusal::BadLength => Numbered { number: 2, page: 0 },
-        Refusal::BadNumber => Numbered { number: 3, page: 0 },
-        Refusal::BadPosition => Numbered { number: 4, page: 0 },
-        Refusal::Damaged(page) => Numbered { number: 5, page },
-        Refusal::Held => Numbered { number: 6, page: 0 },
-        Refusal::NotHeld => Numbered { number: 7, page: 0 },
-        Refusal::Full => Numbered { number: 8, page: 0 },
-        Refusal::Ungrown => Numbered { number: 9, page: 0 },
-        Refusal::BadHeader => Numbered {
-            number: 10,
-            page: 0,
-        },
-        Refusal::BadRows => Numbered {
-            number: 11,
-            page: 0,
-        },
-        Refusal::ShortOutput => Numbered {
-            number: 12,
-            page: 0,
-        },
-        Refusal::NotOwner => Numbered {
-            number: 13,
-            page: 0,
-        },
-        Refusal::TrayFull => Numbered {
-            number: 14,
-            page: 0,
-        },
-        Refusal::BadContents => Numbered {
-            number: 15,
-            page: 0,
-        },
-        Refusal::OutOfTurn => Numbered {
-            number: 16,
-            page: 0,
-        },
+        Refusal::BadParameters => (1, 0),
+        Refusal::BadLength => (2, 0),
+        Refusal::BadNumber => (3, 0),
+        Refusal::BadPosition => (4, 0),
+        Refusal::Damaged(page) => (5, page),
+        Refusal::Held => (6, 0),
+        Refusal::NotHeld => (7, 0),
+        Refusal::Full => (8, 0),
+        Refusal::Ungrown => (9, 0),
+        Refusal::BadHeader => (10, 0),
+        Refusal::BadRows => (11, 0),
+        Refusal::ShortOutput => (12, 0),
+        Refusal::NotOwner => (13, 0),
+        Refusal::TrayFull => (14, 0),
+        Refusal::BadContents => (15, 0),
+        Refusal::OutOfTurn => (16, 0),
     }
 }
 
 fn refused_answer(refusal: Refusal, place: u32) -> Answer
     ensures { result ≡ refused_by refusal place }
 {
-    let told = number_of(refusal);
-    at_spot(told.number, told.page, place)
+    let (number, page) = number_of(refusal);
+    at_spot(number, page, place)
 }
 
 fn at_spot(refusal: u32, page: u32, place: u32) -> Answer
@@ -205,14 +167,9 @@ fn at_spot(refusal: u32, page: u32, place: u32) -> Answer
 fn count_answer(due: bool, stars: u32) -> Answer
     ensures { result ≡ counted due stars }
 {
-    let position = Position { ra: 0, dec: 0 };
     Answer {
-        refusal: 0,
-        page: 0,
-        place: 0,
-        found: false,
-        position,
         due,
         stars,
+        ..at_spot(0, 0, 0)
     }
 }

@@ -54,14 +54,12 @@ fn first_state(parameters: Parameters, stars: u32) -> Growth
         expansions: 0,
         expanded: 0,
     };
-    let mut pages = parameters.width * parameters.groups;
-    while pages < parameters.pages {
+    for pages in parameters.width * parameters.groups..parameters.pages {
         if !exceeds(parameters, pages, stars) {
             return growth;
         }
         let geometry = Geometry { parameters, growth };
         growth = hashing::grown(geometry);
-        pages += 1;
     }
     growth
 }

@@ -32,13 +32,10 @@ fn fill_second(
     ensures secondwords_after { secondwords.new ≡ map (named_item oldwords.now 0) pool.now }
     ensures secondowners_after { secondowners.new ≡ map (named_item oldowners.now 0) pool.now }
 {
-    let mut i = 0;
-    while i < pool.len() {
-        let source = pool[i];
+    for (i, &source) in pool.iter().enumerate() {
         secondnumbers[i] = number_named(oldnumbers, source, 0);
         secondwords[i] = word_named(oldwords, source, 0);
         secondowners[i] = owner_named(oldowners, source, 0);
-        i += 1;
     }
 }
 
@@ -72,7 +69,7 @@ fn write_second(
         pool,
     );
     let pages = secondseparators.len();
-    buffers::copy_8(secondseparators, 0, planned, 0, pages);
+    buffers::copy(secondseparators, 0, planned, 0, pages);
 }
 
 // The stars placed in the new file, if the old one has no bad page and each star finds a place. Its loops are faster in a function of their

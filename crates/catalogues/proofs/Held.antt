@@ -10,6 +10,7 @@ use lib.Dec.{eqb}
 use lib.ListN.{length, get_or, set, take, drop}
 use lib.Seq.{take-suc-set, length-take-le, drop-cons, drop-length, get_or-take}
 use borrow.Author.Tests.{eq-eqb, ne_eqb}
+use Rattle.std.specs.List.{AllWithin, HoldsAt}
 use Rattle.catalogues.specs.Entries.{pairs, rows_held, standing_of}
 use Rattle.catalogues.specs.declared.entries.Standing.{Standing}
 use Rattle.catalogues.specs.declared.entries.Standing.TheVariants.{New, Same, Other}
@@ -68,8 +69,26 @@ module _ (k : ℕ) (ns ws : List ℕ) (p : k ≤ length ns) (q : k ≤ length ws
   unfolding standing_of
   at_row i h s = s ∙ ap (standing_of number word) (opened i h)
 
-  pub sought-next : (i : ℕ) → i < k → (get_or ns i 0 ≡ number → ⊥) → Sought k ns ws number word i → Sought k ns ws number word (i + 1)
+  sought-next : (i : ℕ) → i < k → (get_or ns i 0 ≡ number → ⊥) → Sought k ns ws number word i → Sought k ns ws number word (i + 1)
   sought-next i h n s = at_row i h s ∙ rw (ne_eqb (get_or ns i 0) number n, add-one i)
+
+  reached : (i : ℕ) → i ≤ k → ((j : ℕ) → j < i → get_or ns j 0 ≡ number → ⊥) → Sought k ns ws number word i
+  reached zero h f = refl
+  reached (suc i) h f = rw (add-one i) at (sought-next i (omega arith) (f i (omega arith)) (reached i (omega arith) (λ j g. f j (omega arith))))
+
+  -- the first of the numbers that is the one sought
+  pub first_at : (i : ℕ) → (i < length (take k ns)) × HoldsAt (λ n. n ≡ number) (take k ns) i × AllWithin (λ n. n ≡ number → ⊥) (take k ns) 0 i
+      → (i < k) × (get_or ns i 0 ≡ number) × Sought k ns ws number word i
+  first_at i h =
+      let within : i < k = omega (arith, h.0, length-take-le k ns p) in (
+        within,
+        sym (get_or-take k ns i 0 within) ∙ h.1 0,
+        reached i (omega arith) (λ j g e. h.2 j 0 (omega arith) g (get_or-take k ns j 0 (omega arith) ∙ e)),
+      )
+
+  pub none_there : AllWithin (λ n. n ≡ number → ⊥) (take k ns) 0 (length (take k ns)) → Sought k ns ws number word k
+  none_there h =
+      reached k (omega arith) (λ j g e. h j 0 (omega arith) (omega (arith, length-take-le k ns p)) (get_or-take k ns j 0 g ∙ e))
 
   pub sought-same : (i : ℕ) → i < k → get_or ns i 0 ≡ number → get_or ws i 0 ≡ word → Sought k ns ws number word i → Same ≡ standing_of number word (rows_held k ns ws)
   sought-same i h n w s = sym (at_row i h s ∙ rw (eq-eqb (get_or ns i 0) number n, eq-eqb (get_or ws i 0) word w))

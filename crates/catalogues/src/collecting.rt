@@ -40,22 +40,12 @@ pub fn start() -> Collection
     }
 }
 
-fn line_after(lines: u32) -> u32
-    ensures { result ≡ line_after_lem lines }
-{
-    if lines < 4294967295 {
-        return lines + 1;
-    }
-    lines
-}
-
 fn put_effect(out: &mut [u8], at: usize, effect: Effect, line: u32) -> usize
     requires { at + 64 ≤ length out.old }
     ensures { (TextAt at (effect_text line effect) out.old out.new result) × (result ≤ at + 37) }
 {
     match effect {
-        Effect::Added { number: _, word: _ } => at,
-        Effect::Repeated => at,
+        Effect::Added { number: _, word: _ } | Effect::Repeated => at,
         Effect::Refused(refusal) => {
             let first = lines::put(out, at, b"no ");
             let second = lines::put_field(out, first, refusal, b' ');
@@ -71,12 +61,7 @@ fn put_effect(out: &mut [u8], at: usize, effect: Effect, line: u32) -> usize
 fn is_refusal(effect: Effect) -> bool
     ensures { result ≡ is_refusal_lem effect }
 {
-    match effect {
-        Effect::Added { number: _, word: _ } => false,
-        Effect::Repeated => false,
-        Effect::Refused(_) => true,
-        Effect::Malformed => true,
-    }
+    matches!(effect, Effect::Refused(_) | Effect::Malformed)
 }
 
 // The row of an effect behind the others; the answer is how many there are then.
@@ -92,9 +77,7 @@ fn add(numbers: &mut [u32], words: &mut [u64], count: usize, effect: Effect) -> 
             words[count] = word;
             count + 1
         }
-        Effect::Repeated => count,
-        Effect::Refused(_) => count,
-        Effect::Malformed => count,
+        Effect::Repeated | Effect::Refused(_) | Effect::Malformed => count,
     }
 }
 
@@ -114,10 +97,10 @@ fn end_line(
         × (result.at ≤ at + 37) }
 {
     let done = line_effect(numbers, words, collection.count, collection.line);
-    let lines = line_after(collection.lines);
+    let lines = collection.lines.saturating_add(1);
     let next = put_effect(out, at, done, lines);
     let count = add(numbers, words, collection.count, done);
-    let refused = either(collection.refused, is_refusal(done));
+    let refused = collection.refused || is_refusal(done);
     Collected {
         collection: Collection {
             line: lines::blank_line(),
@@ -127,15 +110,6 @@ fn end_line(
         },
         at: next,
     }
-}
-
-fn either(a: bool, b: bool) -> bool
-    ensures { result ≡ a || b }
-{
-    if a {
-        return true;
-    }
-    b
 }
 
 fn take_byte(
@@ -158,12 +132,7 @@ fn take_byte(
     }
     let line = lines::push(collection.line, byte);
     Collected {
-        collection: Collection {
-            line,
-            count: collection.count,
-            lines: collection.lines,
-            refused: collection.refused,
-        },
+        collection: Collection { line, ..collection },
         at,
     }
 }
@@ -185,12 +154,10 @@ pub fn collect(
 {
     let mut state = collection;
     let mut at = 0;
-    let mut i = 0;
-    while i < block.len() {
-        let step = take_byte(state, block[i], numbers, words, out, at);
+    for byte in block {
+        let step = take_byte(state, *byte, numbers, words, out, at);
         state = step.collection;
         at = step.at;
-        i += 1;
     }
     Collected {
         collection: state,

@@ -27,17 +27,11 @@ fn standing_among(numbers: &[u32], words: &[u64], count: usize, number: u32, wor
     requires { (count ≤ length numbers.now) × (count ≤ length words.now) }
     ensures { result ≡ standing_of number word (rows_held count numbers.now words.now) }
 {
-    let mut i = 0;
-    while i < count {
-        if numbers[i] == number {
-            if words[i] == word {
-                return Standing::Same;
-            }
-            return Standing::Other;
-        }
-        i += 1;
+    match numbers[..count].iter().position(|held| *held == number) {
+        Some(i) if words[i] == word => Standing::Same,
+        Some(_) => Standing::Other,
+        None => Standing::New,
     }
-    Standing::New
 }
 
 fn entry(numbers: &[u32], words: &[u64], count: usize, number: u32, position: Position) -> Effect
@@ -71,9 +65,6 @@ pub fn line_effect(numbers: &[u32], words: &[u64], count: usize, line: Line) -> 
         Command::Enter { number, ra, dec } => {
             entry(numbers, words, count, number, Position { ra, dec })
         }
-        Command::LookUp(_) => Effect::Malformed,
-        Command::Remove(_) => Effect::Malformed,
-        Command::Grow => Effect::Malformed,
-        Command::Bad => Effect::Malformed,
+        Command::LookUp(_) | Command::Remove(_) | Command::Grow | Command::Bad => Effect::Malformed,
     }
 }

@@ -20,22 +20,13 @@ pub fn begins_table(block: &[u8]) -> bool
     block[0] == b'S'
 }
 
-fn at_most(n: usize, most: usize) -> usize
-    ensures { (result ≤ n) × ((result ≤ most) × ((n ≤ most → result ≡ n) × (most ≤ n → result ≡ most))) }
-{
-    if n < most {
-        return n;
-    }
-    most
-}
-
 // A block behind the `at` bytes kept of the input so far; more than the longest table and a byte are not kept.
 pub fn keep(given: &mut [u8], at: usize, block: &[u8]) -> usize
     requires { (at ≤ 400321) × (400321 ≤ length given.old) }
     ensures { (result ≤ 400321) × (take result given.new ≡ kept_table (take at given.old ++ block.now)) }
 {
-    let n = at_most(block.len(), 400321 - at);
-    buffers::copy_8(given, at, block, 0, n);
+    let n = block.len().min(400321 - at);
+    buffers::copy(given, at, block, 0, n);
     at + n
 }
 
@@ -73,10 +64,8 @@ fn put_lines(given: &[u8], rows: usize, first: usize, count: usize, out: &mut [u
     ensures { (TextAt 0 (row_lines (rows_read given.now (5760 + 12 * first) count)) out.old out.new result) × (result ≤ 36 * count) }
 {
     let mut at = 0;
-    let mut i = 0;
-    while i < count {
-        at = put_row(given, rows, first + i, out, at);
-        i += 1;
+    for row in first..first + count {
+        at = put_row(given, rows, row, out, at);
     }
     at
 }
@@ -108,7 +97,7 @@ pub fn list(given: &[u8], part: usize, out: &mut [u8]) -> usize
     if !pad_zero(given, 5760 + 12 * rows) {
         return refuse(11, part, out);
     }
-    let first = at_most(8192 * part, rows);
-    let count = at_most(rows - first, 8192);
+    let first = rows.min(8192 * part);
+    let count = (rows - first).min(8192);
     put_lines(given, rows, first, count, out)
 }

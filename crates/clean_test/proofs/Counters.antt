@@ -410,15 +410,6 @@ rising-raisable g vs ns counts from stop low few c =
     go q o h (yes d) = ap (may_rise (top_of_lem g.parameters.bits) g.parameters.places (get_or vs q 0)) (c.each q o (omega arith) d)
     go q o h (no d) = rw (le-ltb (get_or vs q 0) (top_of_lem g.parameters.bits) (omega arith))
 
--- one item more is looked at
-pub below_next : (number home : ℕ → ℕ) (low first i below r : ℕ) → (below ≡ 0 → (j : ℕ) → first ≤ j → j < i → (number j ≡ 0 → ⊥) → low ≤ home j)
-    → (r ≡ 0 → (number i ≡ 0 → ⊥) → low ≤ home i) → below + r ≡ 0 → (j : ℕ) → first ≤ j → j < i + 1 → (number j ≡ 0 → ⊥) → low ≤ home j
-below_next number home low first i below r done here e j f h star = go (dec_lt j i)
-  where
-    go : Dec (j < i) → low ≤ home j
-    go (yes d) = done (omega arith) j f d star
-    go (no d) = let same : j ≡ i = omega arith in rw same (here (omega arith) (λ z. star (rw same z)))
-
 -- a table of so many entries signs the stars of a page that are homed at page `low` or above
 pub page-signable : (entries places : ℕ) (ns hs : List ℕ) (page low : ℕ) → 2 * (page - low) < entries → HomedFrom low ns hs (page * places) (page * places + places)
     → SignablePassed entries places ns hs page (suc page)

@@ -4,20 +4,9 @@ ghost use Rattle.buffers.specs.Counts.{one};
 ghost use Rattle.hashing.specs.Limits.{valid_parameters};
 ghost use Rattle.placement.specs.Shape.{home_under};
 ghost use Rattle.placement.specs.Ready.{Signers};
-ghost use Rattle.clean_test.specs.Raising.{passed, passed_on_lem, own_on, may_rise, star_number, stars_among, Counts, PassersCounted, AddsCounts, AddsBelow, Homed, HomedFrom, SignablePassed, hash_under, first_raisable_lem, first_rising_lem};
+ghost use Rattle.clean_test.specs.Raising.{passed, passed_on_lem, own_on, may_rise, stars_among, Counts, PassersCounted, AddsCounts, AddsBelow, Homed, HomedFrom, SignablePassed, hash_under, first_raisable_lem, first_rising_lem};
 
 use hashing::{Geometry, Parameters};
-
-// The later of two pages.
-fn later(page: usize, other: usize) -> usize
-    ensures lower_bound { (page ≤ result) × (other ≤ result) }
-    ensures value { page < result → result ≡ other }
-{
-    if page < other {
-        return other;
-    }
-    page
-}
 
 // Counts a star on each page from its home and from `from` up to the one before `page` whose separator is its signature there.
 fn count_passed(
@@ -37,11 +26,9 @@ fn count_passed(
     requires home_in_bounds { 2 * (page - home) < length table.now }
     ensures { AddsCounts from (λ p. one (passed (hash_under geometry) separators.now p page number)) counts }
 {
-    let mut next = later(from, home);
-    while next < page {
-        let probed = next;
-        next += 1;
-        let factor = table[2 * (next - home)];
+    let first = from.max(home);
+    for probed in first..page {
+        let factor = table[2 * (probed + 1 - home)];
         let signature = generator::signature_by(factor, geometry.parameters.bits, number);
         if signature == separators[probed] as u32 {
             counts[probed] += 1;
@@ -68,11 +55,9 @@ fn count_off_home(
 {
     let places = geometry.parameters.places as usize;
     let first = page * places;
-    let mut i = 0;
-    while i < places {
+    for i in 0..places {
         let number = numbers[first + i];
         let home = homes[first + i] as usize;
-        i += 1;
         if number != 0 {
             if home < page {
                 count_passed(
@@ -89,22 +74,10 @@ fn count_stars(numbers: &[u32], first: usize, places: usize) -> u32
     ensures { result ≡ stars_among (take places (drop first numbers.now)) }
 {
     let mut stars: u32 = 0;
-    let mut i = 0;
-    while i < places {
-        stars += one_star(numbers[first + i]);
-        i += 1;
+    for number in &numbers[first..first + places] {
+        stars += u32::from(*number != 0);
     }
     stars
-}
-
-// 1 for a star, 0 for an empty place.
-fn one_star(number: u32) -> u32
-    ensures { result ≡ one (star_number number) }
-{
-    if number == 0 {
-        return 0;
-    }
-    1
 }
 
 // How many stars from item `first` up to the one before `last` are homed below page `low`.
@@ -114,25 +87,10 @@ fn count_below(numbers: &[u32], homes: &[u32], first: usize, last: usize, low: u
     ensures { result ≡ 0 → HomedFrom low numbers.now homes.now first last }
 {
     let mut below: u32 = 0;
-    let mut i = first;
-    while i < last {
-        below += homed_below(numbers[i], homes[i], low);
-        i += 1;
+    for i in first..last {
+        below += u32::from((numbers[i] != 0) & (homes[i] < low));
     }
     below
-}
-
-// 1 for a star homed below page `low`, else 0.
-fn homed_below(number: u32, home: u32, low: u32) -> u32
-    ensures { (result ≤ 1) × (result ≡ 0 → (number ≡ 0 → ⊥) → low ≤ home) }
-{
-    if number == 0 {
-        return 0;
-    }
-    if low <= home {
-        return 0;
-    }
-    1
 }
 
 // Whether a table of so many entries signs the stars of a page on each page that they passed.
@@ -227,17 +185,15 @@ fn count_pages(
     ensures value { 2 * stop < length table.now → result ≡ stop }
     ensures passers_counted_2 { PassersCounted (hash_under geometry) separators.now numbers.now from result counts.new }
 {
-    let mut page = start;
-    while page < stop {
+    for page in start..stop {
         if !count_passers(
             table, geometry, separators, numbers, homes, counts, from, page,
         ) {
             return page;
         }
         count_own(geometry, separators, numbers, counts, page);
-        page += 1;
     }
-    page
+    stop
 }
 
 fn could_rise(separator: u8, top: u8, count: u32, places: u32) -> bool
@@ -260,14 +216,12 @@ fn first_rising(
     ensures { result ≡ first_rising_lem parameters separators.now counts.now from stop }
 {
     let top = placement::top_of(parameters);
-    let mut page = from;
-    while page < stop {
+    for page in from..stop {
         if could_rise(separators[page], top, counts[page], parameters.places) {
             return page;
         }
-        page += 1;
     }
-    page
+    stop
 }
 
 // The same with the pages from `start` on counted by the whole table. Each table has a function of its own: inlined here, their copies share one
@@ -289,16 +243,16 @@ fn first_raisable_beyond(
     ensures { result ≡ first_raisable_lem geometry separators.now numbers.now from stop }
 {
     if geometry.parameters.multiplier == 48271 {
-        return first_raisable_by_48271(
+        return first_raisable_by::<48271>(
             geometry, separators, numbers, homes, counts, from, start, stop,
         );
     }
-    first_raisable_by_16807(
+    first_raisable_by::<16807>(
         geometry, separators, numbers, homes, counts, from, start, stop,
     )
 }
 
-fn first_raisable_by_48271(
+fn first_raisable_by<const MULTIPLIER: u32>(
     geometry: Geometry,
     separators: &[u8],
     numbers: &[u32],
@@ -308,36 +262,13 @@ fn first_raisable_by_48271(
     start: usize,
     stop: usize,
 ) -> usize
-    requires parameters_value { (valid_parameters geometry.parameters ≡ true) × (geometry.parameters.multiplier ≡ 48271) }
+    requires parameters_value { (valid_parameters geometry.parameters ≡ true) × (geometry.parameters.multiplier ≡ MULTIPLIER) }
     requires homed { Homed geometry separators.now numbers.now homes.now from stop }
     requires from_le_start { (from ≤ start) × (start ≤ stop) }
     requires passers_counted { PassersCounted (hash_under geometry) separators.now numbers.now from start counts.old }
     ensures { result ≡ first_raisable_lem geometry separators.now numbers.now from stop }
 {
-    let table = generator::multipliers(48271);
-    let end = count_pages(
-        &table, geometry, separators, numbers, homes, counts, from, start, stop,
-    );
-    first_rising(geometry.parameters, separators, counts, from, end)
-}
-
-fn first_raisable_by_16807(
-    geometry: Geometry,
-    separators: &[u8],
-    numbers: &[u32],
-    homes: &[u32],
-    counts: &mut [u32; 1024],
-    from: usize,
-    start: usize,
-    stop: usize,
-) -> usize
-    requires parameters_value { (valid_parameters geometry.parameters ≡ true) × (geometry.parameters.multiplier ≡ 16807) }
-    requires homed { Homed geometry separators.now numbers.now homes.now from stop }
-    requires from_le_start { (from ≤ start) × (start ≤ stop) }
-    requires passers_counted { PassersCounted (hash_under geometry) separators.now numbers.now from start counts.old }
-    ensures { result ≡ first_raisable_lem geometry separators.now numbers.now from stop }
-{
-    let table = generator::multipliers(16807);
+    let table = generator::multipliers(MULTIPLIER);
     let end = count_pages(
         &table, geometry, separators, numbers, homes, counts, from, start, stop,
     );

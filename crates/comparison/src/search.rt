@@ -11,6 +11,7 @@ pub struct Spot {
 }
 
 // Page by page, the places and then the separator. Where nothing differs the answer is the spot past the last page.
+// Stays: no `Option`, since the contract states the answer as a spot.
 pub fn compare(
     separators: &[u8],
     numbers: &[u32],
@@ -30,27 +31,33 @@ pub fn compare(
     ensures place_value { result.page * suc places + result.place ≡ spot_in pages places (held separators.now numbers.now words.now owners.now) (held planned.now plannednumbers.now plannedwords.now plannedowners.now) }
     ensures place_le_places { result.place ≤ places }
 {
-    let mut page = 0;
-    let mut place = 0;
-    'pages: while page < pages {
-        while place < places {
+    let mut spot = Spot {
+        page: pages,
+        place: 0,
+    };
+    'pages: for page in 0..pages {
+        for place in 0..places {
             let item = page * places + place;
             if numbers[item] != plannednumbers[item] {
+                spot = Spot { page, place };
                 break 'pages;
             }
             if words[item] != plannedwords[item] {
+                spot = Spot { page, place };
                 break 'pages;
             }
             if owners[item] != plannedowners[item] {
+                spot = Spot { page, place };
                 break 'pages;
             }
-            place += 1;
         }
         if separators[page] != planned[page] {
+            spot = Spot {
+                page,
+                place: places,
+            };
             break 'pages;
         }
-        place = 0;
-        page += 1;
     }
-    Spot { page, place }
+    spot
 }

@@ -49,11 +49,11 @@ module _ (ws os : List ℕ) (end : ℕ) (W : List ℕ) (i : ℕ) (A : Agreeing w
       A.rest ∙ ap (neighbours_agree ws os) (next-two end W i h k)
       ∙ ap (λ (l : List ℕ). pair_agrees_lem ws os (get_or W i 0) (get_or W (i + 1) 0) && neighbours_agree ws os l) (sym same)
 
-  pub agreeing-fails : i + 1 < end → pair_agrees_lem ws os (get_or W i 0) (get_or W (i + 1) 0) ≡ false → false ≡ neighbours_agree ws os (take end W)
-  agreeing-fails k e = sym (split k ∙ rw e)
+  pub agreeing-fails : (j : ℕ) → j ≡ i + 1 → j < end → pair_agrees_lem ws os (get_or W i 0) (get_or W j 0) ≡ false → false ≡ neighbours_agree ws os (take end W)
+  agreeing-fails j q k e = sym (split (rw q at k) ∙ rw (rw q at e))
 
-  pub agreeing-next : i + 1 < end → pair_agrees_lem ws os (get_or W i 0) (get_or W (i + 1) 0) ≡ true → Agreeing ws os end W (i + 1)
-  agreeing-next k e = record { rest = split k ∙ rw (e, add-one i) }
+  pub agreeing-next : (j : ℕ) → j ≡ i + 1 → j < end → pair_agrees_lem ws os (get_or W i 0) (get_or W j 0) ≡ true → (m : ℕ) → m ≡ i + 1 → Agreeing ws os end W m
+  agreeing-next j q k e m r = record { rest = split (rw q at k) ∙ rw (rw q at e, r, add-one i) }
 
   pub agreeing-all : end ≤ i + 1 → true ≡ neighbours_agree ws os (take end W)
   unfolding neighbours_agree leads_agreed
@@ -67,13 +67,12 @@ module _ (ws os : List ℕ) (end : ℕ) (W : List ℕ) (i : ℕ) (A : Agreeing w
 -- Of the first i words those that stay stand in front; the last of them has the key `last`.
 pub record Keeping (end : ℕ) (W₀ W : List ℕ) (last kept i : ℕ) : Type 0 where
   pub order : kept ≤ i
-  pub upto : i ≤ end
   pub size : length W ≡ length W₀
   pub is : firsts_after 0 (take end W₀) ≡ take kept W ++ firsts_after last (drop i (take end W₀))
   pub ahead : drop i W ≡ drop i W₀
 
 pub keeping_none : (end : ℕ) (W₀ : List ℕ) → Keeping end W₀ W₀ 0 0 0
-keeping_none end W₀ = record { order = zero-le; upto = zero-le; size = refl; is = refl; ahead = refl }
+keeping_none end W₀ = record { order = zero-le; size = refl; is = refl; ahead = refl }
 
 module _ (end : ℕ) (W₀ W : List ℕ) (last kept i : ℕ) (K : Keeping end W₀ W last kept i) (fits : end ≤ length W₀) (h : i < end) where
   here : get_or W i 0 ≡ get_or W₀ i 0
@@ -96,7 +95,6 @@ module _ (end : ℕ) (W₀ W : List ℕ) (last kept i : ℕ) (K : Keeping end W�
   keeping_repeated e =
       record {
         order = omega (arith, K.order);
-        upto = omega arith;
         size = K.size;
         is = K.is ∙ ap (λ (l : List ℕ). take kept W ++ firsts_after last l) opened ∙ rw (eq-eqb (number_key (get_or W i 0)) last e, add-one i);
         ahead = rw (add-one i) next;
@@ -107,7 +105,6 @@ module _ (end : ℕ) (W₀ W : List ℕ) (last kept i : ℕ) (K : Keeping end W�
   keeping_first e =
       record {
         order = omega (arith, K.order);
-        upto = omega arith;
         size = length-set W kept (get_or W i 0) ∙ K.size;
         is =
             K.is ∙ ap (λ (l : List ℕ). take kept W ++ firsts_after last l) opened

@@ -25,12 +25,10 @@ pub fn all_agree(words: &[u64], owners: &[u8], waiting: &[u64], end: usize) -> b
     requires end_bound { end ≤ 32768 }
     ensures { result ≡ neighbours_agree words.now owners.now (take end waiting.now) }
 {
-    let mut i = 0;
-    while i + 1 < end {
-        if !pair_agrees(words, owners, waiting[i], waiting[i + 1]) {
+    for i in 1..end {
+        if !pair_agrees(words, owners, waiting[i - 1], waiting[i]) {
             return false;
         }
-        i += 1;
     }
     true
 }

@@ -10,10 +10,8 @@ pub fn drop_repeated(waiting: &mut [u64], end: usize) -> usize
 {
     let mut last: u64 = 0;
     let mut kept = 0;
-    let mut i = 0;
-    while i < end {
+    for i in 0..end {
         let word = waiting[i];
-        i += 1;
         if word / 65536 != last {
             waiting[kept] = word;
             kept += 1;

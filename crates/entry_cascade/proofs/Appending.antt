@@ -2,7 +2,7 @@
 use mathlib.Core.Path.{◌≡◌, refl, sym, ap, ◌∙◌}
 use mathlib.Core.Bool.{Bool, true, false, cond}
 use mathlib.Core.List.{List, [], ◌∷◌, ◌++◌, map, append-nil}
-use Prim.Native.Nat.{ℕ, zero, suc, ◌+◌, ◌-◌, ◌^◌, ◌≤◌, ◌<◌}
+use Prim.Native.Nat.{ℕ, zero, suc, ◌+◌, ◌^◌, ◌≤◌, ◌<◌}
 use native.Mathlib.Nat.{add-zero}
 use native.Mathlib.Numerals.{add-one}
 use native.Mathlib.Omega.{arith}
@@ -99,10 +99,11 @@ module _ (places at : ℕ) (ns hs W₀ : List ℕ) (end : ℕ) (W : List ℕ) (r
   appended_inside h s =
       omega (arith, A.room, stars-next i places 0 ns false h ln (unskipped (get_or ns i 0) false (ne_eqb (get_or ns i 0) 0 s)))
 
-  pub appended_star : i < places → (get_or ns i 0 ≡ 0 → ⊥) → (x : ℕ) → x ≡ pack (get_or hs i 0) (get_or ns i 0) (at + (i + 1))
+  pub appended_star : i < places → (get_or ns i 0 ≡ 0 → ⊥) → (x : ℕ) → x ≡ pack (get_or hs i 0) (get_or ns i 0) (at + i + 1)
       → Appended places at ns hs W₀ end (set W reach x) (reach + 1) (i + 1)
   appended_star h s x e =
       let t : skipped 0 (get_or ns i 0) ≡ false = unskipped (get_or ns i 0) false (ne_eqb (get_or ns i 0) 0 s) in
+      let source : at + i + 1 ≡ at + (i + 1) = omega arith in
       record {
         upto = omega arith;
         long = length-set W reach x ∙ A.long;
@@ -111,7 +112,7 @@ module _ (places at : ℕ) (ns hs W₀ : List ℕ) (end : ℕ) (W : List ℕ) (r
             ap (λ (k : ℕ). take k (set W reach x) ++ words_past places at (i + 1) ns hs) (add-one reach)
             ∙ ap (λ (l : List ℕ). l ++ words_past places at (i + 1) ns hs) (take-suc-set W reach x (appended_inside h s))
             ∙ append_snoc (take reach W) x (words_past places at (i + 1) ns hs)
-            ∙ ap (λ (y : ℕ). take reach W ++ (y ∷ words_past places at (i + 1) ns hs)) e
+            ∙ ap (λ (y : ℕ). take reach W ++ (y ∷ words_past places at (i + 1) ns hs)) (e ∙ ap (pack (get_or hs i 0) (get_or ns i 0)) source)
             ∙ ap (λ (l : List ℕ). take reach W ++ l) (sym (words-at h ∙ rw t))
             ∙ A.words;
       }

@@ -36,13 +36,11 @@ pub fn append(
     ensures waiting_after { take result waiting.new ≡ take end waiting.old ++ words_from at 0 (take places numbers.now) (take places homes.now) }
 {
     let mut reach = end;
-    let mut i = 0;
-    while i < places {
+    for i in 0..places {
         let number = numbers[i];
         let home = homes[i];
-        i += 1;
         if number != 0 {
-            waiting[reach] = page_separator::pack(home, number, at + i);
+            waiting[reach] = page_separator::pack(home, number, at + i + 1);
             reach += 1;
         }
     }
@@ -83,7 +81,7 @@ fn test_page<'a>(
 {
     if page < tested {
         let places = geometry.parameters.places as usize;
-        buffers::copy_32(homes, 0, pool, page * places, places);
+        buffers::copy(homes, 0, pool, page * places, places);
         return true;
     }
     soundness::page_sound(

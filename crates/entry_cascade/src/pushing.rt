@@ -35,10 +35,9 @@ fn push_along(
     let parameters = geometry.parameters;
     let pages = parameters.pages as usize;
     waiting[0] = page_separator::pack(home, number, numbers.len() + 1);
-    let mut at = page;
     let mut from = 0;
     let mut end = 1;
-    while at < pages {
+    for at in page..pages {
         match take_in(
             table, geometry, separators, numbers, words, owners, pool, waiting, at, end, tested,
         ) {
@@ -53,7 +52,6 @@ fn push_along(
                     return Reach::Ends(at);
                 }
                 end = reach;
-                at += 1;
             }
         }
     }

@@ -25,7 +25,7 @@ use Rattle.placement.specs.Shape.{Sized}
 use Rattle.placement.specs.Hash.{hash_of, sound_at, named_page_lem}
 use Rattle.placement.specs.Shape.{homes_of}
 use Rattle.placement.proofs.Writing.{length-column}
-use Rattle.page_separator.specs.Lists.{all, selected, all_below}
+use Rattle.page_separator.specs.Lists.{selected, all_below}
 use Rattle.page_separator.specs.Words.{home_of}
 use Rattle.page_separator.specs.Probes.{Probing, homes_up_to, words_separator_from}
 use Rattle.page_separator.proofs.Lists.{all_head, all_tail, all_append}

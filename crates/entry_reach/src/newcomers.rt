@@ -126,11 +126,7 @@ fn move_front(waiting: &mut [u64], from: usize, end: usize) -> usize
     ensures waiting_after { take result waiting.new ≡ slice from end waiting.old }
 {
     let left = end - from;
-    let mut i = 0;
-    while i < left {
-        waiting[i] = waiting[from + i];
-        i += 1;
-    }
+    buffers::move_down(waiting, 0, from, left);
     left
 }
 
@@ -157,10 +153,9 @@ fn push_within(
         pool.new planned.new waiting.new result }
 {
     waiting[0] = page_separator::pack(star.home, star.number, numbers.len() + 1);
-    let mut at = star.page;
     let mut from = 0;
     let mut end = 1;
-    while at <= last {
+    for at in star.page..last + 1 {
         let next = push_page(
             table, geometry, separators, numbers, words, owners, pool, waiting, planned, at, from,
             end,
@@ -170,7 +165,6 @@ fn push_within(
         if from == end {
             return Pushing::Ends(at);
         }
-        at += 1;
     }
     Pushing::Leaves(move_front(waiting, from, end))
 }
@@ -195,8 +189,8 @@ pub fn name_page(
 {
     let pages = geometry.parameters.pages as usize;
     let stop = end + 1;
-    buffers::copy_8(planned, 0, separators, 0, page);
-    buffers::copy_8(planned, stop, separators, stop, pages - stop);
+    buffers::copy(planned, 0, separators, 0, page);
+    buffers::copy(planned, stop, separators, stop, pages - stop);
     soundness::named_from(table, geometry, &planned[..pages], number, home)
 }
 

@@ -36,8 +36,7 @@ use Rattle.calls.specs.declared.answers.Refusal.TheVariants.{
   BadContents,
   OutOfTurn,
 }
-use Rattle.calls.specs.declared.answers.Admission.{Admission}
-use Rattle.calls.specs.declared.answers.Admission.TheVariants.{Passed, Refused as TurnedAway}
+use Rattle.std.specs.Prelude.{Result, Ok, Err}
 use Rattle.calls.specs.declared.records.GrowthRecord.{GrowthRecord}
 use Rattle.calls.specs.Answers.{refusal_number, refusal_page, refused_by, spotted, refused, counted}
 use Rattle.calls.specs.Shape.{admission_number}
@@ -93,7 +92,7 @@ early out x after h = go (refusal_number x) refl
     go (suc n) e = rw (e, pageless x h)
 
 module _ (p : Parameters) (r : GrowthRecord) (f : File) (out : List ℕ) where
-  pub refused-first : {a : Admission} {fits : Bool} {x : Refusal} → admission_number a ≡ record_refusal p r fits → fits ≡ file_fits_lem p f → a ≡ TurnedAway x
+  pub refused-first : {a : Result (Unit {0}) Refusal} {fits : Bool} {x : Refusal} → admission_number a ≡ record_refusal p r fits → fits ≡ file_fits_lem p f → a ≡ Err x
       → Writes (write_under p r f out) (length_said (Refused x)) out
   unfolding write_under length_said record_refusal
   refused-first {a} {fits} {x} e l t =
@@ -101,7 +100,7 @@ module _ (p : Parameters) (r : GrowthRecord) (f : File) (out : List ℕ) where
       writes (write_under p r f out)
       (rw (← is) (early out x (write_on p r.state f out) (rw is (refusal-most p r (file_fits_lem p f))))) refl
 
-  module _ {a : Admission} {fits : Bool} (e : admission_number a ≡ record_refusal p r fits) (l : fits ≡ file_fits_lem p f) (t : a ≡ Passed) where
+  module _ {a : Result (Unit {0}) Refusal} {fits : Bool} (e : admission_number a ≡ record_refusal p r fits) (l : fits ≡ file_fits_lem p f) (t : a ≡ Ok tt) where
     none_refused : or_else (unless (valid_steps p r) 1) (unlent p r.state (file_fits_lem p f)) ≡ 0
     unfolding record_refusal
     none_refused = sym (ap (record_refusal p r) l) ∙ (sym e ∙ ap admission_number t)

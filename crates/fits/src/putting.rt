@@ -8,7 +8,7 @@ ghost use Rattle.fits.specs.Written.{length_said};
 ghost use Rattle.fits.specs.Shape.{fitted};
 
 use call_guard::{admit, file_fits};
-use calls::answers::{Admission, Answer, Refusal};
+use calls::answers::{Answer, Refusal};
 use calls::records::GrowthRecord;
 use fits_table::items::count_held;
 use fits_table::table::put_table;
@@ -81,7 +81,7 @@ pub fn write_table(
         words.len(),
         owners.len(),
     );
-    if let Admission::Refused(refusal) = admit(parameters, growth, fits) {
+    if let Err(refusal) = admit(parameters, growth, fits) {
         return Written::Refused(refusal);
     }
     let state = growth.state;

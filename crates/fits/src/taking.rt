@@ -10,7 +10,7 @@ ghost use Rattle.fits_table.specs.Header.{table_in};
 ghost use Rattle.exchange.specs.Tables.{good_data, read_on, read_of, read_under};
 
 use call_guard::{all_fit, at_rest, guard, turn_away};
-use calls::answers::{Admission, Placed, Refusal};
+use calls::answers::{Placed, Refusal};
 use calls::records::GrowthRecord;
 use fits_pages::place_rows;
 use fits_table::cards::{Table, table_rows};
@@ -22,10 +22,7 @@ fn data_good(given: &[u8], rows: usize) -> bool
     requires { (rows ≤ 32768) × (5760 + 12 * rows ≤ length given.now) }
     ensures { result ≡ good_data given.now rows }
 {
-    if !rows_good(given, 5760, rows) {
-        return false;
-    }
-    pad_zero(given, 5760 + 12 * rows)
+    rows_good(given, 5760, rows) && pad_zero(given, 5760 + 12 * rows)
 }
 
 // The header and length first, then the rows and the pad, then whether all stars fit. The pool is scratch.
@@ -97,7 +94,7 @@ fn read_closed(
         poolwords.len(),
         poolowners.len(),
     );
-    if let Admission::Refused(refusal) = guard(parameters, growth, fits) {
+    if let Err(refusal) = guard(parameters, growth, fits) {
         return Placed::Refused(refusal, 0);
     }
     let answer = read_lent(

@@ -47,10 +47,8 @@ pub fn numbers_at(given: &[u8], rows: usize, first: usize, count: usize) -> [u32
     ensures { (length result ≡ 32) × (take count result ≡ take count (drop first (numbers_read given.now rows))) }
 {
     let mut block = [0u32; 32];
-    let mut i = 0;
-    while i < count {
+    for i in 0..count {
         block[i] = get_32(given, 5760 + 12 * (first + i));
-        i += 1;
     }
     block
 }

@@ -9,34 +9,15 @@ ghost use Rattle.fits_pages.specs.Columns.{numbers_read, keys_from, row_keys};
 use crate::columns::{number_at, numbers_at};
 use hashing::Geometry;
 
-// How many rows the next block has.
-fn block_of(rest: usize) -> usize
-    requires { 1 ≤ rest }
-    ensures { (1 ≤ result) × ((result ≤ rest) × (result ≤ 32)) }
-{
-    if rest < 32 {
-        return rest;
-    }
-    32
-}
-
 // Keys of home and source, of `count` rows from row `first` on.
 fn put_keys(keys: &mut [u32], homes: &[u16; 32], first: usize, count: usize)
     requires count_in_bounds { (first + count ≤ length keys.old) × (count ≤ 32) }
     requires count_bound { (first + count ≤ 32768) × (count ≤ length homes.now) }
     ensures { keys.new ≡ paste keys.old first (keys_from first homes.now) count }
 {
-    let mut i = 0;
-    while i < count {
-        keys[first + i] = wide(homes[i]) * 65536 + (first + i + 1) as u32;
-        i += 1;
+    for i in 0..count {
+        keys[first + i] = u32::from(homes[i]) * 65536 + (first + i + 1) as u32;
     }
-}
-
-fn wide(home: u16) -> u32
-    ensures { (result ≡ home) × (result < 65536) }
-{
-    home as u32
 }
 
 // The keys of all rows.
@@ -48,7 +29,7 @@ pub fn key_rows(table: &[u32; 90], geometry: Geometry, given: &[u8], rows: usize
 {
     let mut first = 0;
     while first < rows {
-        let count = block_of(rows - first);
+        let count = (rows - first).min(32);
         let block = numbers_at(given, rows, first, count);
         let mut homes = [0u16; 32];
         homes::of_page(table, geometry, &block, count, &mut homes);
@@ -64,11 +45,8 @@ pub fn number_rows(given: &[u8], waiting: &mut [u64], rows: usize)
     requires waiting_value { all_below (2 ^ 57) (take rows waiting.old) ≡ true }
     ensures { waiting.new ≡ paste waiting.old 0 (map (numbered (numbers_read given.now rows)) waiting.old) rows }
 {
-    let mut i = 0;
-    while i < rows {
-        let word = waiting[i];
-        let number = number_at(given, rows, (word % 65536) as u32);
-        waiting[i] = word + number as u64 * 65536;
-        i += 1;
+    for word in &mut waiting[..rows] {
+        let number = number_at(given, rows, (*word % 65536) as u32);
+        *word += u64::from(number) * 65536;
     }
 }

@@ -55,14 +55,11 @@ fn store_rows(
     ensures words_after { words.new ≡ map (named_item (words_read given.now rows) 0) pool.now }
     ensures owners_after { owners.new ≡ replicate (length owners.old) 0 }
 {
-    let mut i = 0;
-    while i < numbers.len() {
-        let source = pool[i];
-        numbers[i] = number_at(given, rows, source);
-        words[i] = word_at(given, rows, source);
-        i += 1;
+    for (i, source) in pool.iter().enumerate() {
+        numbers[i] = number_at(given, rows, *source);
+        words[i] = word_at(given, rows, *source);
     }
-    buffers::fill_8(owners, 0);
+    buffers::fill(owners, 0);
 }
 
 // The file is replaced by the rows' stars, or left as it is where they do not fit. The pool is scratch.
@@ -92,7 +89,7 @@ pub fn place_rows(
         return false;
     }
     let pages = geometry.parameters.pages as usize;
-    buffers::copy_8(separators, 0, &planned, 0, pages);
+    buffers::copy(separators, 0, &planned, 0, pages);
     store_rows(given, rows, pool, numbers, words, owners);
     true
 }

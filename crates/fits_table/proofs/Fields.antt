@@ -10,30 +10,15 @@ use native.Mathlib.Decide.{dec_lt}
 use native.Mathlib.Omega.{arith}
 use lib.Dec.{ltb, eqb}
 use lib.ListN.{length, get_or, set, take, drop, length-append, length-drop}
-use lib.Seq.{paste, take-suc, take_all, drop-cons, drop-length, drop-set-add, take-set-le, set_at, length-take-le, take-add}
+use lib.Seq.{paste, take-suc, take_all, drop-cons, drop-set-add, take-set-le, set_at, length-take-le, take-add}
 use borrow.Author.Tests.{le-leb, lt-leb, lt-ltb, le-ltb, eq-eqb, ne_eqb}
 use Rattle.buffers.proofs.Lists.{alike_same}
 use Rattle.buffers.specs.Lists.{written, alike}
-use Rattle.buffers.proofs.Written.{written-whole, written-add, written-middle, written_none, paste_written, length-written, written-to-front}
+use Rattle.buffers.proofs.Written.{written-whole, written-add, written-middle, written_none, paste_written, written-to-front}
 use Rattle.buffers.proofs.Tests.{and-true}
 use Rattle.fits_table.specs.declared.cards.Table.TheVariants.{Rows, Nothing}
 use Rattle.fits_table.specs.Header.{ascii, card, cards, blanks, leading, field, front, behind, headers, digit_step_lem, read_digits, candidate, tells, table_in, table_length}
 use Rattle.fits_table.specs.Shape.{template, card_table, slot_card_lem}
-
--- bytes compared
-pub alike_next : (a b : List ℕ) (i : ℕ) → i < length a → i < length b → get_or a i 0 ≡ get_or b i 0 → alike (drop i a) (drop i b) ≡ alike (drop (i + 1) a) (drop (i + 1) b)
-unfolding alike
-alike_next a b i ha hb e = rw (drop-cons a i 0 ha, drop-cons b i 0 hb, eq-eqb (get_or a i 0) (get_or b i 0) e, add-one i)
-
-pub alike-not : (a b : List ℕ) (i : ℕ) → i < length a → i < length b → (get_or a i 0 ≡ get_or b i 0 → ⊥) → alike (drop i a) (drop i b) ≡ false
-unfolding alike
-alike-not a b i ha hb e = rw (drop-cons a i 0 ha, drop-cons b i 0 hb, ne_eqb (get_or a i 0) (get_or b i 0) e)
-
-pub alike_end : (a b : List ℕ) (i : ℕ) → i ≡ length a → length a ≡ length b → alike (drop i a) (drop i b) ≡ true
-unfolding alike
-alike_end a b i e s =
-    ap (λ (k : ℕ). alike (drop k a) (drop i b)) e ∙ ap (λ (l : List ℕ). alike l (drop i b)) (drop-length a)
-    ∙ ap (λ (k : ℕ). alike [] (drop k b)) (e ∙ s) ∙ ap (alike []) (drop-length b)
 
 -- the table's card at each of the 72 places, by one computed test
 slots_right : ℕ → Bool
@@ -88,9 +73,6 @@ pub slot_is : (s : ℕ) (d : List ℕ) → s < 72 → get_or card_table (slot_ca
 slot_is s d h =
     any-default card_table (slot_card_lem s) d [] (omega (arith, slot_small s h, table_long))
     ∙ alike_same (get_or card_table (slot_card_lem s) []) (take 80 (drop (80 * s) template)) (slot_right 72 s h all_right)
-
-pub card-long : (s : ℕ) → s < 72 → length (take 80 (drop (80 * s) template)) ≡ 80
-card-long s h = length-take-le 80 (drop (80 * s) template) (omega (arith, length-drop (80 * s) template, template-long))
 
 -- s cards of the headers written
 pub template-next : (o e : List ℕ) (s : ℕ) (c : List ℕ) → s < 72 → 5760 ≤ length o → e ≡ written 0 (take (80 * s) template) o → c ≡ take 80 (drop (80 * s) template)
@@ -168,12 +150,6 @@ filled_next o e at first rest (suc j) c h room ec w =
           ap (λ (l : List ℕ). set l (at + j) c) (w.is ∙ ap (λ (k : ℕ). written k w.done o) step)
           ∙ set_before (at + j) c w.done o (omega arith);
     })
-
-pub filled-long : {o e : List ℕ} {at first rest i : ℕ} → at + 19 ≤ length o → i ≤ 19 → Filled o e at first rest i → length e ≡ length o
-filled-long {o} {e} {at} {first} {rest} {i} room h w =
-    ap length w.is
-    ∙ length-written (at + i) w.done o
-    (omega (arith, ap length w.whole ∙ length-append (leading i rest) w.done, length-leading 19 first, length-leading i rest))
 
 pub filled-all : (o e : List ℕ) (at n rest : ℕ) → at + 20 ≤ length o → Filled (set o (at + 19) (48 + n % 10)) e at (n / 10) rest 0 → e ≡ written at (field n) o
 unfolding field leading

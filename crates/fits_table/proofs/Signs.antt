@@ -1,14 +1,13 @@
--- Rows: four bytes stored, two's complement, and the tests of a row.
+-- Rows: two's complement, and the tests of a row.
 -- Assumes nothing.
 use mathlib.Core.Path.{◌≡◌, refl, sym, ap, ◌∙◌}
 use mathlib.Core.Bool.{true, false, ◌&&◌}
-use mathlib.Core.List.{List, [], ◌∷◌, ◌++◌, append_assoc}
+use mathlib.Core.List.{List, ◌++◌}
 use Prim.Native.Nat.{ℕ, suc, ◌+◌, ◌-◌, ◌*◌, ◌/◌, ◌%◌, ◌^◌, ◌≤◌, ◌<◌}
 use native.Mathlib.Decide.{dec_lt, dec_le}
 use native.Mathlib.Omega.{arith}
 use lib.Dec.{leb}
-use lib.ListN.{length, set, take, drop}
-use lib.Seq.{sets-eq}
+use lib.ListN.{length}
 use lib.IntN.{pos, negsuc, ◌-ℤ◌}
 use lib.Signed.{le_z}
 use borrow.Author.Tests.{lt-ltb, le-ltb, le-leb, lt-leb}
@@ -17,15 +16,6 @@ use Rattle.buffers.proofs.Written.{written-add}
 use Rattle.pages.specs.Position.{raised, unpacked, packed, valid_number, valid_position}
 use Rattle.fits_table.specs.declared.rows.Row.TheVariants.{Star, Wrong}
 use Rattle.fits_table.specs.Rows.{be32, twos, signed, row_bytes, from32, position_at, row_at, good_rows, good_after}
-
-pub four : (l : List ℕ) (at a b c d : ℕ) → at + 4 ≤ length l
-    → set (set (set (set l at a) (at + 1) b) (at + 2) c) (at + 3) d ≡ written at (a ∷ b ∷ c ∷ d ∷ []) l
-unfolding written
-four l at a b c d h =
-    let one : at + 1 ≡ suc at = omega arith in
-    let two : at + 2 ≡ suc (suc at) = omega arith in
-    let three : at + 3 ≡ suc (suc (suc at)) = omega arith in
-    rw (one, two, three) (sets-eq (a ∷ b ∷ c ∷ d ∷ []) l at h ∙ append_assoc (take at l) (a ∷ b ∷ c ∷ d ∷ []) (drop (at + 4) l))
 
 -- the raised declination, lowered
 pub twos-lowered : (a : ℕ) → a ≤ 648000000 → twos (pos a -ℤ pos 324000000) ≡ (a + 3970967296) % 4294967296

@@ -1,10 +1,10 @@
 // The two headers, and the number of rows that they tell.
 ghost use Rattle.std.specs.Prelude.{◌≡◌, ◌+◌, ◌*◌, ◌%◌, ◌≤◌, ◌<◌, length, take, drop};
-ghost use Rattle.buffers.specs.Lists.{written, alike};
+ghost use Rattle.buffers.specs.Lists.{written};
 ghost use Rattle.fits_table.specs.Header.{field, headers, digit_step_lem, candidate, table_in};
 ghost use Rattle.fits_table.specs.Shape.{card_table, slot_card_lem, template};
 
-use buffers::copy_8;
+use buffers::copy;
 
 // The primary header's cards, the table's with an empty field of 20 for NAXIS2, and a blank one.
 const CARDS: [[u8; 80]; 18] = [
@@ -64,11 +64,9 @@ fn put_template(out: &mut [u8])
     ensures { out.new ≡ written 0 template out.old }
 {
     let cards = CARDS;
-    let mut slot = 0;
-    while slot < 72 {
+    for slot in 0..72 {
         let card = card_of(&cards, slot);
-        copy_8(out, 80 * slot, &card, 0, 80);
-        slot += 1;
+        copy(out, 80 * slot, &card, 0, 80);
     }
 }
 
@@ -79,14 +77,8 @@ fn put_field(out: &mut [u8], at: usize, value: u32)
 {
     out[at + 19] = digit(value);
     let mut rest = value / 10;
-    let mut i = 19;
-    while 0 < i {
-        i -= 1;
-        if rest == 0 {
-            out[at + i] = b' ';
-        } else {
-            out[at + i] = digit(rest);
-        }
+    for i in (0..19).rev() {
+        out[at + i] = if rest == 0 { b' ' } else { digit(rest) };
         rest /= 10;
     }
 }
@@ -127,26 +119,10 @@ fn candidate_rows(given: &[u8]) -> u32
     ensures { result ≡ candidate given.now }
 {
     let mut value = 0;
-    let mut i = 0;
-    while i < 20 {
-        value = digit_step(value, given[3210 + i]);
-        i += 1;
+    for byte in &given[3210..3230] {
+        value = digit_step(value, *byte);
     }
     value
-}
-
-fn same_bytes(a: &[u8], b: &[u8]) -> bool
-    requires { length a.now ≡ length b.now }
-    ensures { result ≡ alike a.now b.now }
-{
-    let mut i = 0;
-    while i < a.len() {
-        if a[i] != b[i] {
-            return false;
-        }
-        i += 1;
-    }
-    true
 }
 
 // The rows of a table that a writer can put out, told by its headers and its length.
@@ -162,7 +138,7 @@ pub fn table_rows(given: &[u8]) -> Table
     }
     let mut expected = [0u8; 5760];
     put_headers(&mut expected, rows);
-    if !same_bytes(&given[0..5760], &expected) {
+    if given[..5760] != expected[..] {
         return Table::Nothing;
     }
     let count = rows as usize;

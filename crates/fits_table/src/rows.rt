@@ -18,10 +18,7 @@ pub fn put_32(out: &mut [u8], at: usize, value: u32)
     requires { at + 4 ≤ length out.old }
     ensures { out.new ≡ written at (be32 value) out.old }
 {
-    out[at] = (value / 16777216) as u8;
-    out[at + 1] = (value / 65536 % 256) as u8;
-    out[at + 2] = (value / 256 % 256) as u8;
-    out[at + 3] = (value % 256) as u8;
+    out[at..at + 4].copy_from_slice(&value.to_be_bytes());
 }
 
 pub fn put_row(out: &mut [u8], at: usize, number: u32, word: u64)
@@ -47,20 +44,11 @@ fn lowered(raised: u32) -> u32
     raised - 324000000
 }
 
-fn wide(byte: u8) -> u32
-    ensures { result ≡ byte }
-{
-    byte as u32
-}
-
 pub fn get_32(given: &[u8], at: usize) -> u32
     requires { at + 4 ≤ length given.now }
     ensures { result ≡ from32 given.now at }
 {
-    wide(given[at]) * 16777216
-        + wide(given[at + 1]) * 65536
-        + wide(given[at + 2]) * 256
-        + wide(given[at + 3])
+    u32::from_be_bytes([given[at], given[at + 1], given[at + 2], given[at + 3]])
 }
 
 // The row at byte `at` after the row of number `last`.
@@ -95,14 +83,7 @@ pub fn pad_zero(given: &[u8], from: usize) -> bool
     requires { from ≤ length given.now }
     ensures { result ≡ empties (drop from given.now) }
 {
-    let mut i = from;
-    while i < given.len() {
-        if given[i] != 0 {
-            return false;
-        }
-        i += 1;
-    }
-    true
+    given[from..].iter().all(|byte| *byte == 0)
 }
 
 // No row of the `count` rows from byte `at` on is out of order or range.
@@ -112,14 +93,11 @@ pub fn rows_good(given: &[u8], at: usize, count: usize) -> bool
     ensures { result ≡ good_rows 0 given.now at count }
 {
     let mut last = 0;
-    let mut i = 0;
-    while i < count {
-        let row = row_at(last, given, at + 12 * i);
-        let Row::Star { number, word: _ } = row else {
+    for i in 0..count {
+        let Row::Star { number, word: _ } = row_at(last, given, at + 12 * i) else {
             return false;
         };
         last = number;
-        i += 1;
     }
     true
 }

@@ -18,7 +18,7 @@ use Rattle.hashing.specs.Geometry.{multiplier_of, page_count, grown}
 use Rattle.hashing.specs.Limits.{valid_parameters, valid_growth}
 use Rattle.hashing.specs.Home.{home}
 use Rattle.pages.specs.Shape.{stretch}
-use Rattle.placement.specs.Rule.{Hash, Contents, below, pages, without}
+use Rattle.placement.specs.Rule.{Hash, Contents, below, pages}
 use Rattle.placement.specs.Shape.{blank}
 use Rattle.placement.specs.File.{File, gathered, replaced}
 use Rattle.placement.specs.Shape.{Sized}
@@ -31,12 +31,12 @@ use Rattle.reach.specs.Reach.{first_unsound_lem, all_stars}
 use Rattle.page_plan.proofs.Sourcing.{item_home}
 use Rattle.page_plan.proofs.RuleOverWords.{Probes}
 use Rattle.page_plan.proofs.Applying.{applied}
-use Rattle.page_plan.proofs.Placed.{Gatherable, placed}
-use Rattle.removal_reach.specs.Stretch.{StretchReady, new_pages}
+use Rattle.page_plan.proofs.Placed.{placed}
+use Rattle.removal_reach.specs.Stretch.{new_pages}
 use Rattle.removal_reach.proofs.Ruled.{applied-stretch}
 use Rattle.removal_reach.proofs.Items.{all-below, all_sound, all-numbered, numbers_below, plannable-stretch, ready-stretch}
 use Rattle.growth_in_place.specs.Expansion.{Spacious}
-use Rattle.growth_block.specs.Block.{home_up_to, hash_up_to, homes_taken, BlockAt, PlansLocally, NamesPage}
+use Rattle.growth_block.specs.Block.{home_up_to, hash_up_to, homes_taken, PlansLocally, NamesPage}
 use Rattle.growth_block.proofs.OneBlock.{SameBelow, page-local}
 use Rattle.growth_block.proofs.Named.{page-named}
 

@@ -17,14 +17,12 @@ fn block_start(separators: &[u8], top: u8, page: usize) -> usize
     requires { page ≤ length separators.now }
     ensures { StartsBlock separators.now top page result }
 {
-    let mut lo = page;
-    while 0 < lo {
-        if separators[lo - 1] == top {
-            return lo;
+    for below in (0..page).rev() {
+        if separators[below] == top {
+            return below + 1;
         }
-        lo -= 1;
     }
-    lo
+    0
 }
 
 // The page behind a block, or its last one if that is the last of all.
@@ -37,15 +35,6 @@ fn page_behind(last: usize, pages: usize) -> usize
         return next;
     }
     last
-}
-
-fn least(home: u32, stop: u32) -> u32
-    ensures { result ≡ cond (ltb stop home) stop home }
-{
-    if stop < home {
-        return stop;
-    }
-    home
 }
 
 // The homes of `count` items under the next growth state, up to page `stop`.
@@ -64,12 +53,9 @@ fn rehome_items(
     ensures { homes.new ≡ paste homes.old first
         (drop first (homes_taken geometry.parameters (grown geometry.parameters geometry.growth) stop numbers.now)) count }
 {
-    let mut i = 0;
-    while i < count {
-        let old = homes[first + i];
-        let next = home_update::item_grown(table, geometry, numbers[first + i], old);
-        homes[first + i] = least(next, stop);
-        i += 1;
+    for i in first..first + count {
+        let next = home_update::item_grown(table, geometry, numbers[i], homes[i]);
+        homes[i] = next.min(stop);
     }
 }
 

@@ -15,13 +15,11 @@ fn place_on(numbers: &[u32], places: usize, page: usize, number: u32) -> usize
     ensures { result ≡ place_of number (part places page numbers.now) }
 {
     let first = page * places;
-    let mut i = 0;
-    while i < places {
+    for i in 0..places {
         let there = numbers[first + i];
         if there == 0 || number <= there {
             return i;
         }
-        i += 1;
     }
     places
 }

@@ -33,12 +33,9 @@ fn rehome_page(
 {
     let places = geometry.parameters.places as usize;
     let first = page * places;
-    let mut i = 0;
-    while i < places {
+    for i in 0..places {
         let old = homes[first + i];
-        let next = item_grown(table, geometry, numbers[first + i], old);
-        homes[first + i] = next;
-        i += 1;
+        homes[first + i] = item_grown(table, geometry, numbers[first + i], old);
     }
 }
 
@@ -63,9 +60,7 @@ fn move_from(
 {
     let places = geometry.parameters.places as usize;
     let first = page * places;
-    let mut i = places;
-    while 0 < i {
-        i -= 1;
+    for i in (0..places).rev() {
         let number = numbers[first + i];
         let home = homes[first + i];
         if joins(table, geometry, number, home, added) {
@@ -94,16 +89,12 @@ fn move_below(
     ensures settled_below { SettledBelow geometry.parameters geometry.growth added numbers.new words.new owners.new }
 {
     let parameters = geometry.parameters;
-    let stop = added as usize;
     let mut runs = false;
-    let mut page = 0;
-    while page < stop {
-        let at = page;
-        let here = near(geometry, runs, at);
-        runs = runs_on(parameters, here, separators[at]);
-        page += 1;
+    for page in 0..added as usize {
+        let here = near(geometry, runs, page);
+        runs = runs_on(parameters, here, separators[page]);
         if here {
-            move_from(table, geometry, numbers, words, owners, homes, at, added);
+            move_from(table, geometry, numbers, words, owners, homes, page, added);
         }
     }
 }

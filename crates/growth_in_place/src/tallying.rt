@@ -28,10 +28,8 @@ fn count_page(
     let places = geometry.parameters.places as usize;
     let first = page * places;
     let mut count = 0;
-    let mut i = 0;
-    while i < places {
+    for i in 0..places {
         let at = first + i;
-        i += 1;
         if joins(table, geometry, numbers[at], homes[at], added) {
             count += 1;
         }
@@ -58,17 +56,13 @@ pub fn count_stars(
     ensures { result ≡ joiners_below geometry.parameters geometry.growth numbers.now added }
 {
     let parameters = geometry.parameters;
-    let stop = added as usize;
     let mut total = 0;
     let mut runs = false;
-    let mut page = 0;
-    while page < stop {
-        let at = page;
-        let here = near(geometry, runs, at);
-        runs = runs_on(parameters, here, separators[at]);
-        page += 1;
+    for page in 0..added as usize {
+        let here = near(geometry, runs, page);
+        runs = runs_on(parameters, here, separators[page]);
         if here {
-            total += count_page(table, geometry, numbers, homes, at, added);
+            total += count_page(table, geometry, numbers, homes, page, added);
         }
     }
     total

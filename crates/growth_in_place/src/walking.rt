@@ -13,10 +13,7 @@ pub fn near(geometry: Geometry, runs: bool, page: usize) -> bool
     requires page_bound { page < 1024 }
     ensures { result ≡ (runs || expands geometry.parameters geometry.growth page) }
 {
-    if runs {
-        return true;
-    }
-    hashing::expands(geometry, page as u32)
+    runs || hashing::expands(geometry, page as u32)
 }
 
 // Stars pass on from such a page, unless its separator is 2^k − 1.
@@ -24,8 +21,5 @@ pub fn runs_on(parameters: Parameters, here: bool, separator: u8) -> bool
     requires { valid_parameters parameters ≡ true }
     ensures { result ≡ (here && not (eqb separator (top_of_lem parameters.bits))) }
 {
-    if here {
-        return separator != placement::top_of(parameters);
-    }
-    false
+    here && separator != placement::top_of(parameters)
 }

@@ -141,15 +141,11 @@ fn run_with(run: usize, separator: u8, top: u8) -> usize
 fn longest_run(separators: &[u8], top: u8) -> usize
     requires { length separators.now ≤ 1024 }
 {
-    let mut longest = 0;
+    let mut longest: usize = 0;
     let mut run = 0;
-    let mut page = 0;
-    while page < separators.len() {
-        run = run_with(run, separators[page], top);
-        page += 1;
-        if longest < run {
-            longest = run;
-        }
+    for &separator in separators {
+        run = run_with(run, separator, top);
+        longest = longest.max(run);
     }
     longest
 }

@@ -10,6 +10,7 @@ ghost use Rattle.growth_plan.specs.Growth.{state_after, Movable, first_moved_lem
 use hashing::Geometry;
 
 // An item's home under that growth state, from its home under this one; 0 for an empty place.
+// Stays: the contract's `Movable` and `state_after` of specs/ take the flag.
 fn next_home(table: &[u32; 90], geometry: Geometry, back: bool, number: u32, old: u32) -> u32
     requires homing { Homing geometry table.now }
     requires movable { Movable back geometry.parameters geometry.growth }
@@ -42,12 +43,10 @@ fn rehome(table: &[u32; 90], geometry: Geometry, back: bool, numbers: &[u32], ho
     requires homes_stay { HomesStay back geometry.parameters geometry.growth numbers.now }
     ensures { homes.new ≡ homes_of geometry.parameters (state_after back geometry.parameters geometry.growth) numbers.now }
 {
-    let mut i = first_moved(geometry, back);
-    while i < numbers.len() {
+    let first = first_moved(geometry, back);
+    for i in first..numbers.len() {
         let old = homes[i];
-        let next = next_home(table, geometry, back, numbers[i], old);
-        homes[i] = next;
-        i += 1;
+        homes[i] = next_home(table, geometry, back, numbers[i], old);
     }
 }
 

@@ -122,10 +122,10 @@ fn write_planned(
     plan_transfer::fetch(
         numbers, words, owners, pool, waiting, poolowners, at, places, 0, 0, 0,
     );
-    buffers::copy_8(secondseparators, step, planned, step, 1);
-    buffers::copy_32(secondnumbers, at, pool, at, places);
-    buffers::copy_64(secondwords, at, waiting, at, places);
-    buffers::copy_8(secondowners, at, poolowners, at, places);
+    buffers::copy(secondseparators, step, planned, step, 1);
+    buffers::copy(secondnumbers, at, pool, at, places);
+    buffers::copy(secondwords, at, waiting, at, places);
+    buffers::copy(secondowners, at, poolowners, at, places);
 }
 
 // The growth planned anew as far as page `step` needs, and that page written to the second set of pages, whose other pages stay. The pool

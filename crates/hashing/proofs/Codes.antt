@@ -250,14 +250,6 @@ reached-next p ending codes code order j l h w =
       same = rw (drop-cons codes j 0 h) at w.same;
     }
 
--- the next step is narrow, and its groups have doubled no less often
-pub reached-level :
-    (p : Parameters) (ending : Landing) (codes : List ℕ) (code order j : ℕ) → j < length codes → Reached p ending codes code order j →
-    (code / 8 ≤ get_or codes j 0 / 8) × (code_count p (get_or codes j 0) ≤ 1024)
-reached-level p ending codes code order j h w =
-    let opened : NarrowRising p (code / 8) (get_or codes j 0 ∷ drop (suc j) codes) 10 = rw (drop-cons codes j 0 h) at w.rising in
-    (opened.0.0, opened.0.1.0)
-
 pub reached-end :
     (p : Parameters) (ending : Landing) (codes : List ℕ) (code order j : ℕ) → j ≡ length codes → Reached p ending codes code order j →
     record { code = code; order = order } ≡ ending

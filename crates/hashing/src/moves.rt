@@ -68,12 +68,10 @@ pub fn choose(
 {
     let mut count: usize = 0;
     let mut code = parameters.width as u16;
-    let mut i: u32 = 0;
-    while i < expansions {
+    for i in 0..expansions {
         steps[count] = code;
         let taken = chosen(table[2 * i as usize + 1], key, code % 8);
         code = next_code(parameters, i, code);
-        i += 1;
         if taken {
             count += 1;
         }
@@ -152,12 +150,9 @@ pub fn follow(
     let groups = parameters.groups as u16;
     let mut code = start / groups;
     let mut order = start % groups;
-    let mut j = 0;
-    while j < count {
-        let next = steps[j];
+    for &next in &steps[..count] {
         order = moved(parameters, inverse, code, order, next);
         code = next;
-        j += 1;
     }
     Landing { code, order }
 }

@@ -1,42 +1,35 @@
 -- The kinds of a lent history, tested one by one, and lengths that agree.
-use mathlib.Core.Path.{◌≡◌, refl, ◌∙◌}
-use mathlib.Core.Bool.{true, false}
-use mathlib.Core.List.{List, []}
-use Prim.Native.Nat.{ℕ, ◌+◌, ◌≤◌, ◌<◌}
-use native.Mathlib.Numerals.{add-one}
+use mathlib.Core.Path.{◌≡◌, refl, sym}
+use mathlib.Core.Bool.{Bool, true, false}
+use Rattle.std.specs.Prelude.{IsTrue, EachIndex, ◌↔◌, slice_index}
+use mathlib.Core.List.{List, [], ◌∷◌}
+use Prim.Native.Nat.{ℕ, zero, suc, ◌<◌}
 use native.Mathlib.Omega.{arith}
-use lib.Dec.{eqb}
-use lib.ListN.{length, get_or, drop, drop_of_length-le}
-use lib.Seq.{drop-cons}
-use borrow.Author.Tests.{lt-ltb, le-ltb, eqb-true}
+use lib.Dec.{eqb, ltb}
+use lib.ListN.{length, get_or}
+use borrow.Author.Tests.{lt-ltb, ltb-true, eqb-true}
 use Rattle.hashing.proofs.Bounds.{both}
 use Rattle.history_replay.specs.Replay.{LentHistory, all_kinds, even_lengths}
 use Rattle.history_replay.specs.Steps.{Even}
 
--- the kinds before i are known, so it is the others that tell
-pub record Known (kinds : List ℕ) (i : ℕ) : Type 0 where
-  pub most : i ≤ length kinds
-  pub rest : all_kinds kinds ≡ all_kinds (drop i kinds)
-
-pub known-none : (kinds : List ℕ) → Known kinds 0
-known-none kinds = record { most = omega arith; rest = refl }
-
-pub known_more : (kinds : List ℕ) (i : ℕ) → Known kinds i → i < length kinds → get_or kinds i 0 ≤ 8 → Known kinds (i + 1)
+each-known : (kinds : List ℕ) → all_kinds kinds ≡ true → (i : ℕ) → i < length kinds → get_or kinds i 0 < 9
 unfolding all_kinds
-known_more kinds i t l h =
-    rw (add-one i)
-    (record {
-      most = omega arith;
-      rest = t.rest ∙ rw (drop-cons kinds i 0 l, lt-ltb (get_or kinds i 0) 9 (omega arith));
-    })
+each-known [] e i h = absurd (omega arith)
+each-known (kind ∷ kinds) e zero h = ltb-true kind 9 (both (ltb kind 9) _ e).0
+each-known (kind ∷ kinds) e (suc i) h = each-known kinds (both (ltb kind 9) _ e).1 i (omega arith)
 
-pub known-not : (kinds : List ℕ) (i : ℕ) → Known kinds i → i < length kinds → 8 < get_or kinds i 0 → all_kinds kinds ≡ false
+known-each : (kinds : List ℕ) → ((i : ℕ) → i < length kinds → get_or kinds i 0 < 9) → all_kinds kinds ≡ true
 unfolding all_kinds
-known-not kinds i t l h = t.rest ∙ rw (drop-cons kinds i 0 l, le-ltb (get_or kinds i 0) 9 (omega arith))
+known-each [] h = refl
+known-each (kind ∷ kinds) h = rw (lt-ltb kind 9 (h 0 (omega arith))) (known-each kinds (λ i l. h (suc i) (omega arith)))
 
-pub known-all : (kinds : List ℕ) (i : ℕ) → Known kinds i → length kinds ≤ i → all_kinds kinds ≡ true
-unfolding all_kinds
-known-all kinds i t l = t.rest ∙ rw (drop_of_length-le kinds {i = i} l)
+pub all-known : (b : Bool) (kinds : List ℕ) → (IsTrue b ↔ EachIndex kinds (λ k. slice_index kinds k < 9)) → b ≡ all_kinds kinds
+all-known true kinds h = sym (known-each kinds (h.0 refl))
+all-known false kinds h = go (all_kinds kinds) refl
+  where
+    go : (t : Bool) → all_kinds kinds ≡ t → false ≡ t
+    go true e = h.1 (each-known kinds e)
+    go false e = refl
 
 pub even : (h : LentHistory) (answers : List ℕ)
     → even_lengths (length h.kinds) (length h.callers) (length h.stars) (length h.ras) (length h.decs) (length answers) ≡ true → Even h answers

@@ -175,25 +175,12 @@ fn lengths_agree(
 ) -> bool
     ensures { result ≡ even_lengths kinds callers stars ras decs answers }
 {
-    if callers != kinds {
-        return false;
-    }
-    if stars != kinds {
-        return false;
-    }
-    if ras != kinds {
-        return false;
-    }
-    if decs != kinds {
-        return false;
-    }
-    if answers % 8 != 0 {
-        return false;
-    }
-    if answers / 8 != kinds {
-        return false;
-    }
-    true
+    callers == kinds
+        && stars == kinds
+        && ras == kinds
+        && decs == kinds
+        && answers % 8 == 0
+        && answers / 8 == kinds
 }
 
 // The pool is as long as the file's numbers, words and owners.
@@ -207,26 +194,13 @@ fn pool_agrees(
 ) -> bool
     ensures { result ≡ even_pool numbers words owners poolnumbers poolwords poolowners }
 {
-    if poolnumbers != numbers {
-        return false;
-    }
-    if poolwords != words {
-        return false;
-    }
-    poolowners == owners
+    poolnumbers == numbers && poolwords == words && poolowners == owners
 }
 
 fn kinds_known(kinds: &[u8]) -> bool
     ensures { result ≡ all_kinds kinds.now }
 {
-    let mut i = 0;
-    while i < kinds.len() {
-        if 8 < kinds[i] {
-            return false;
-        }
-        i += 1;
-    }
-    true
+    kinds.iter().all(|kind| *kind < 9)
 }
 
 // The calls in turn, each with what the one before left.
@@ -253,8 +227,7 @@ fn run(
         result answers.new (after separators numbers words owners) (pool_after_lem poolnumbers poolwords poolowners) }
 {
     let mut state = growth.state;
-    let mut i = 0;
-    while i < kinds.len() {
+    for i in 0..kinds.len() {
         let position = Position {
             ra: ras[i],
             dec: decs[i],
@@ -276,7 +249,6 @@ fn run(
             answers,
             i * 8,
         );
-        i += 1;
     }
     state
 }

@@ -7,7 +7,9 @@ use native.Mathlib.Decide.{dec_lt}
 use native.Mathlib.Numerals.{add-one}
 use native.Mathlib.Omega.{arith}
 use lib.ListN.{length, get_or, take, drop, set, length-append, get_or-append, get_or-map, length-map}
-use lib.Seq.{drop-cons, drop-length, set_at, append_snoc, get_or_at, get_or-append-add, get_or-take, get_or-drop, ext_get_or, length-take-le, paste, take-paste, drop-paste}
+use lib.Seq.{drop-cons, drop-length, set_at, append_snoc, get_or_at, get_or-append-add, get_or-take, get_or-drop, ext_get_or, length-take-le, paste, take-paste, drop-paste, length-paste}
+use borrow.Rule.Slice.PartMut.{put_mid}
+use Rattle.std.proofs.lemmas.Slice.{put_mid-paste}
 use Rattle.homes.specs.Lanes.{block_at, Blocks}
 use Rattle.homes.specs.Indexed.{lanes}
 
@@ -94,6 +96,13 @@ module _ (l : List ℕ) (at : ℕ) where
 get_d_past : (p q : List ℕ) (n i : ℕ) → length p ≡ n → get_or (p ++ q) (n + i) 0 ≡ get_or q i 0
 get_d_past p q n i e = rw (← e) (get_or-append-add p q i 0)
 
+-- a block lent as a part of the list
+pub lent-block : (l : List ℕ) (at : ℕ) {block : List ℕ} → block ≡ take (at + 8 - at) (drop at l) → length block ≡ 8 → block ≡ block_at l at
+unfolding block_at
+lent-block l at {block} e size =
+    sym (lanes-list 8 block size)
+    ∙ lanes-same 8 (λ i. get_or block i 0) (λ i. get_or l (at + i) 0) (λ i h. rw (e, get_or-take (at + 8 - at) (drop at l) i 0 (omega arith), get_or-drop at l i 0))
+
 -- a block stored
 module _ (l block : List ℕ) (at : ℕ) (fits : at + 8 ≤ length l) (eight : length block ≡ 8) where
   head : length (take at l) ≡ at
@@ -135,7 +144,7 @@ module _ (l block : List ℕ) (at : ℕ) (fits : at + 8 ≤ length l) (eight : l
 
   -- a loop over the blocks: what holds of those stored, and that the others stay
   module _ (start : at % 8 ≡ 0) where
-    pub blocks_more :
+    blocks_more :
         (holds : ℕ → List ℕ → Type 0) → Blocks at (λ b. holds b (block_at l b)) → holds at block →
         Blocks (at + 8) (λ b. holds b (block_at (paste l at block 8) b))
     blocks_more holds old new b m h = go (dec_lt b at)
@@ -146,8 +155,23 @@ module _ (l block : List ℕ) (at : ℕ) (fits : at + 8 ≤ length l) (eight : l
             let e : b ≡ at = omega arith in
             rw (e, part-stored) new
 
-    pub blocks-rest : (l₀ : List ℕ) → Kept at l l₀ → Kept (at + 8) (paste l at block 8) l₀
+    blocks-rest : (l₀ : List ℕ) → Kept at l l₀ → Kept (at + 8) (paste l at block 8) l₀
     blocks-rest l₀ old b m h = part-above b h ∙ old b m (omega arith)
+
+module _ (l l' block : List ℕ) (at : ℕ) (start : at % 8 ≡ 0) (fits : at + 8 ≤ length l) (eight : length block ≡ 8) (stored : l' ≡ paste l at block 8) where
+  pub blocks-next : (holds : ℕ → List ℕ → Type 0) → Blocks at (λ b. holds b (block_at l b)) → holds at block → Blocks (at + 8) (λ b. holds b (block_at l' b))
+  blocks-next holds old new b m h = rw stored (blocks_more l block at fits eight start holds old new b m h)
+
+  pub blocks-kept : (l₀ : List ℕ) → Kept at l l₀ → Kept (at + 8) l' l₀
+  blocks-kept l₀ old b m h = rw stored (blocks-rest l block at fits eight start l₀ old b m h)
+
+-- a block stored by a copy into a part of the list
+module _ (l : List ℕ) (at : ℕ) {part block : List ℕ} (same : part ≡ block) (eight : length block ≡ 8) where
+  pub stored-block : put_mid at (at + 8 - at) l part ≡ paste l at block 8
+  stored-block = put_mid-paste at (at + 8 - at) l part block 8 same (omega arith) (omega (arith, eight))
+
+  pub stored-length : at + 8 ≤ length l → length (put_mid at (at + 8 - at) l part) ≡ length l
+  stored-length fits = ap length stored-block ∙ length-paste l at block 8 fits (omega (arith, eight))
 
 -- the blocks together, read place by place
 pub blocks-map :

@@ -8,12 +8,14 @@ use native.Mathlib.Decide.{dec_le, dec_lt}
 use native.Mathlib.Omega.{arith}
 use lib.Dec.{leb, ltb}
 use lib.ListN.{length, get_or}
+use lib.Seq.{paste}
 use borrow.Author.Tests.{le-leb, lt-leb, lt-ltb, le-ltb}
 use Rattle.hashing.specs.declared.Parameters.{Parameters}
 use Rattle.hashing.specs.declared.Growth.{Growth}
+use Rattle.hashing.specs.declared.Geometry.{Geometry}
 use Rattle.generator.specs.Generator.{modulus, scrambled}
 use Rattle.generator.specs.Shape.{power}
-use Rattle.hashing.specs.Geometry.{size_at, count_at_lem, rank}
+use Rattle.hashing.specs.Geometry.{multiplier_of, size_at, count_at_lem, rank}
 use Rattle.hashing.specs.Home.{rank_at, chosen, expanded_at, step_from, after_steps, home}
 use Rattle.generator.proofs.Numbers.{mul_mod_right, halves}
 use Rattle.generator.proofs.Scrambling.{scrambled-by}
@@ -22,10 +24,10 @@ use Rattle.hashing.proofs.Homes.{rank_below, rank-at-below, steps_one, steps_bel
 use Rattle.homes.specs.declared.stages.Stage.{Stage}
 use Rattle.homes.specs.declared.stages.Sweep.{Sweep}
 use Rattle.homes.specs.Stages.{stage_at, sweep_of, limit_at, Rankable}
-use Rattle.homes.specs.Lanes.{Under, residue_of, keys_at, hit_of, moved_by_lem, stepped, pages_after_lem, groups_after_lem, Grouped}
+use Rattle.homes.specs.Lanes.{block_at, Blocks, PagedAt, RegroupedAt, Under, residue_of, keys_at, hit_of, moved_by_lem, stepped, pages_after_lem, groups_after_lem, Grouped}
 use Rattle.homes.specs.Indexed.{lanes}
 use Rattle.homes.proofs.Numbers.{quotient-test, quotient-over}
-use Rattle.homes.proofs.Lists.{lane, lanes-length, lanes-same}
+use Rattle.homes.proofs.Lists.{lane, lanes-length, lanes-same, blocks-next}
 use Rattle.homes.proofs.Prepared.{sweep_step, stage_size, stage_count}
 
 -- the test by a quotient is the rule's test
@@ -201,6 +203,20 @@ module _ (a : ℕ) (p : Parameters) (g : Growth) (keys : List ℕ) (i : ℕ) whe
         ∙ lanes-same 8 _ _ (λ j b. rw (pe, page-at j b, stage_count p i stage te))
 
 -- before the first step, and after the last
+-- a loop over the blocks that steps each, after one more turn
+module _ (geometry : Geometry) (keys : List ℕ) (i : ℕ) (l l' : List ℕ) (at : ℕ) (start : at % 8 ≡ 0) (fits : at + 8 ≤ length l) where
+  abbrev groups_next : ℕ → List ℕ
+  groups_next b = groups_after_lem (multiplier_of geometry.parameters) geometry.parameters geometry.growth (block_at keys b) (i + 1) (count_at_lem geometry.parameters i)
+
+  abbrev pages_next : ℕ → List ℕ
+  pages_next b = pages_after_lem (multiplier_of geometry.parameters) geometry.parameters geometry.growth (block_at keys b) (i + 1)
+
+  pub regrouped-next : l' ≡ paste l at (groups_next at) 8 → Blocks at (RegroupedAt geometry keys i l) → Blocks (at + 8) (RegroupedAt geometry keys i l')
+  regrouped-next e old = blocks-next l l' (groups_next at) at start fits (groups-length _ _ _ _ _ _) e (λ b block. block ≡ groups_next b) old refl
+
+  pub paged-next : l' ≡ paste l at (pages_next at) 8 → Blocks at (PagedAt geometry keys (i + 1) l) → Blocks (at + 8) (PagedAt geometry keys (i + 1) l')
+  paged-next e old = blocks-next l l' (pages_next at) at start fits (pages-length _ _ _ _ _) e (λ b block. block ≡ pages_next b) old refl
+
 pub starts-are :
     (a factor : ℕ) (p : Parameters) (g : Growth) (keys : List ℕ) → factor ≡ power a 1 →
     lanes 8 (λ j. factor * get_or keys j 0 % modulus % (p.width * p.groups)) ≡ pages_after_lem a p g keys 0

@@ -1,10 +1,9 @@
 // Each loop takes one function of `scalars` over eight places, and becomes a run of vector instructions.
 ghost use Rattle.std.specs.Prelude.{◌≡◌, ◌+◌, ◌*◌, ◌/◌, ◌%◌, ◌≤◌, ◌<◌, length, get_or};
-ghost use Rattle.std.proofs.Math.Seq.{paste};
 ghost use Rattle.generator.specs.Generator.{modulus};
 ghost use Rattle.hashing.specs.Geometry.{rank};
 ghost use Rattle.homes.specs.Stages.{Rankable};
-ghost use Rattle.homes.specs.Lanes.{block_at, KeysOf, Under, Keys, hit_of, moved_by_lem};
+ghost use Rattle.homes.specs.Lanes.{KeysOf, Under, Keys, hit_of, moved_by_lem};
 ghost use Rattle.homes.specs.Indexed.{lanes};
 
 use crate::scalars::{group, hit, keyed, moved, ranked, start};
@@ -17,10 +16,8 @@ pub fn starts(factor: u32, span: u16, inverse: u32, keys: &[u64; 8], pages: &mut
     requires pages_len { length pages.old ≡ 8 }
     ensures { pages.new ≡ lanes 8 (λ i. factor * get_or keys.now i 0 % modulus % span) }
 {
-    let mut i: usize = 0;
-    while i < 8 {
+    for i in 0..8 {
         pages[i] = start(factor, span, inverse, keys[i]);
-        i += 1;
     }
 }
 
@@ -31,10 +28,8 @@ pub fn tests(factor: u32, most: u32, keys: &[u64; 8], hits: &mut [u16; 8])
     requires hits_len { length hits.old ≡ 8 }
     ensures { hits.new ≡ lanes 8 (λ i. hit_of factor most (get_or keys.now i 0)) }
 {
-    let mut i: usize = 0;
-    while i < 8 {
+    for i in 0..8 {
         hits[i] = hit(factor, most, keys[i]);
-        i += 1;
     }
 }
 
@@ -44,10 +39,8 @@ pub fn groups_of(count: u16, pages: &[u16; 8], groups: &mut [u16; 8])
     requires groups_len { length groups.old ≡ 8 }
     ensures { groups.new ≡ lanes 8 (λ i. get_or pages.now i 0 % count) }
 {
-    let mut i: usize = 0;
-    while i < 8 {
+    for i in 0..8 {
         groups[i] = group(pages[i], count);
-        i += 1;
     }
 }
 
@@ -57,10 +50,8 @@ pub fn ranks(sweep: Sweep, stage: Stage, groups: &[u16; 8], orders: &mut [u16; 8
     requires orders_len { length orders.old ≡ 8 }
     ensures { orders.new ≡ lanes 8 (λ i. rank sweep.step stage.count (get_or groups.now i 0)) }
 {
-    let mut i: usize = 0;
-    while i < 8 {
+    for i in 0..8 {
         orders[i] = ranked(sweep, stage, groups[i]);
-        i += 1;
     }
 }
 
@@ -70,10 +61,8 @@ pub fn moves(limit: u16, first: u16, hits: &[u16; 8], orders: &[u16; 8], old: &m
     requires len { length old.old ≡ 8 }
     ensures { old.new ≡ lanes 8 (λ i. moved_by_lem limit first (get_or hits.now i 0) (get_or orders.now i 0) (get_or old.old i 0)) }
 {
-    let mut i: usize = 0;
-    while i < 8 {
+    for i in 0..8 {
         old[i] = moved(limit, first, hits[i], orders[i], old[i]);
-        i += 1;
     }
 }
 
@@ -83,59 +72,7 @@ pub fn keys_of(numbers: &[u32; 32], at: usize, keys: &mut [u64; 8])
     requires keys_len { length keys.old ≡ 8 }
     ensures { KeysOf numbers.now at keys.new }
 {
-    let mut i: usize = 0;
-    while i < 8 {
+    for i in 0..8 {
         keys[i] = keyed(numbers[at + i]);
-        i += 1;
-    }
-}
-
-pub fn load_keys(keys: &[u64; 32], at: usize, block: &mut [u64; 8])
-    requires at_bound { at + 8 ≤ 32 }
-    requires block_len { length block.old ≡ 8 }
-    ensures { block.new ≡ block_at keys.now at }
-{
-    let mut i: usize = 0;
-    while i < 8 {
-        block[i] = keys[at + i];
-        i += 1;
-    }
-}
-
-pub fn store_keys(block: &[u64; 8], at: usize, keys: &mut [u64; 32])
-    requires at_bound { at + 8 ≤ 32 }
-    requires block_len { length block.now ≡ 8 }
-    requires keys_len { length keys.old ≡ 32 }
-    ensures { keys.new ≡ paste keys.old at block.now 8 }
-{
-    let mut i: usize = 0;
-    while i < 8 {
-        keys[at + i] = block[i];
-        i += 1;
-    }
-}
-
-pub fn load(pages: &[u16; 32], at: usize, block: &mut [u16; 8])
-    requires at_bound { at + 8 ≤ 32 }
-    requires block_len { length block.old ≡ 8 }
-    ensures { block.new ≡ block_at pages.now at }
-{
-    let mut i: usize = 0;
-    while i < 8 {
-        block[i] = pages[at + i];
-        i += 1;
-    }
-}
-
-pub fn store(block: &[u16; 8], at: usize, pages: &mut [u16; 32])
-    requires at_bound { at + 8 ≤ 32 }
-    requires block_len { length block.now ≡ 8 }
-    requires pages_len { length pages.old ≡ 32 }
-    ensures { pages.new ≡ paste pages.old at block.now 8 }
-{
-    let mut i: usize = 0;
-    while i < 8 {
-        pages[at + i] = block[i];
-        i += 1;
     }
 }

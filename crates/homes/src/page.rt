@@ -8,7 +8,7 @@ ghost use Rattle.hashing.specs.Home.{home};
 ghost use Rattle.homes.specs.Lanes.{block_at, Blocks, keys_at, KeysOf};
 ghost use Rattle.homes.specs.Indexed.{lanes};
 
-use crate::lanes::{keys_of, starts, store, store_keys};
+use crate::lanes::{keys_of, starts};
 use crate::passes::steps;
 use hashing::Geometry;
 
@@ -29,15 +29,13 @@ fn prepare(
     ensures blocks_2 { Blocks places (λ at. block_at pages.new at ≡ lanes 8 (λ i. factor * get_or (keys_at numbers.now at) i 0 % modulus % span)) }
 {
     let inverse = 4294967295 / span as u32;
-    let mut at: usize = 0;
-    while at < places {
+    for at in (0..places).step_by(8) {
         let mut block = [0u64; 8];
         let mut starting = [0u16; 8];
         keys_of(numbers, at, &mut block);
         starts(factor, span, inverse, &block, &mut starting);
-        store_keys(&block, at, keys);
-        store(&starting, at, pages);
-        at += 8;
+        keys[at..at + 8].copy_from_slice(&block);
+        pages[at..at + 8].copy_from_slice(&starting);
     }
 }
 

@@ -8,7 +8,6 @@ ghost use Rattle.homes.specs.Stages.{stage_at, sweep_of, test_at};
 ghost use Rattle.homes.specs.Lanes.{block_at, Blocks, Keys, pages_after_lem, groups_after_lem, PagedAt, GroupedAt, RegroupedAt};
 
 use crate::blocks::turn;
-use crate::lanes::{load, load_keys, store};
 use crate::stages::{Stage, Sweep, Test, first_stage, next_stage, sweep_by, test_of};
 use hashing::Geometry;
 
@@ -42,9 +41,10 @@ fn turn_at(
     let mut block_keys = [0u64; 8];
     let mut block_groups = [0u16; 8];
     let mut block_pages = [0u16; 8];
-    load_keys(keys, at, &mut block_keys);
-    load(groups, at, &mut block_groups);
-    load(pages, at, &mut block_pages);
+    let end = at + 8;
+    block_keys.copy_from_slice(&keys[at..end]);
+    block_groups.copy_from_slice(&groups[at..end]);
+    block_pages.copy_from_slice(&pages[at..end]);
     turn(
         geometry,
         sweep,
@@ -55,8 +55,8 @@ fn turn_at(
         &mut block_groups,
         &mut block_pages,
     );
-    store(&block_groups, at, groups);
-    store(&block_pages, at, pages);
+    groups[at..end].copy_from_slice(&block_groups);
+    pages[at..end].copy_from_slice(&block_pages);
 }
 
 // Step i + 1 of all blocks.
@@ -85,10 +85,8 @@ fn turn_all(
     ensures blocks_4 { Blocks places (RegroupedAt geometry keys.now i groups.new) }
     ensures blocks_5 { Blocks places (PagedAt geometry keys.now (i + 1) pages.new) }
 {
-    let mut at: usize = 0;
-    while at < places {
+    for at in (0..places).step_by(8) {
         turn_at(geometry, sweep, stage, test, i, at, keys, groups, pages);
-        at += 8;
     }
 }
 
@@ -112,8 +110,7 @@ pub fn steps(
     let sweep = sweep_by(geometry.parameters.step as u16);
     let mut groups = [0u16; 32];
     let mut stage = first_stage(geometry.parameters);
-    let mut i: u32 = 0;
-    while i <= geometry.growth.expansions {
+    for i in 0..=geometry.growth.expansions {
         let test = test_of(powers, geometry, stage, i);
         turn_all(
             geometry,
@@ -127,6 +124,5 @@ pub fn steps(
             pages,
         );
         stage = next_stage(geometry.parameters, i, stage);
-        i += 1;
     }
 }

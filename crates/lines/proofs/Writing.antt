@@ -1,23 +1,23 @@
 -- Runs of stores.
-use Prim.Native.Nat.{ℕ, suc, ◌+◌, ◌<◌}
+use Prim.Native.Nat.{ℕ, suc, ◌+◌, ◌≤◌}
 use native.Mathlib.Nat.{add-zero, add-suc, suc-add}
 use native.Mathlib.Omega.{arith}
 use mathlib.Core.List.{List, [], ◌∷◌, ◌++◌}
 use mathlib.Core.Path.{◌≡◌, refl, sym, ◌∙◌}
-use lib.ListN.{length, take, get_or, set, length-append}
-use lib.Seq.{sets, take-suc, length-take-le}
+use lib.ListN.{length, set, length-append}
+use Rattle.std.proofs.Common.{append_assoc}
+use lib.Seq.{sets, paste}
+use Rattle.std.proofs.lemmas.List.Edits.{sets-eq, paste_all}
 use Rattle.lines.specs.Replies.{TextAt}
 
 pub sets_append : (l : List ℕ) (i : ℕ) (a b : List ℕ) → sets l i (a ++ b) ≡ sets (sets l i a) (i + length a) b
 sets_append l i [] b = rw add-zero
 sets_append l i (x ∷ a) b = rw (add-suc i (length a), ← suc-add i (length a)) (sets_append (set l i x) (suc i) a b)
 
--- a copy, one byte on
+-- a text copied into its place
 pub copied :
-    (l : List ℕ) (at : ℕ) (text : List ℕ) (i : ℕ) → i < length text →
-    set (sets l at (take i text)) (at + i) (get_or text i 0) ≡ sets l at (take (suc i) text)
-copied l at text i h =
-    rw (take-suc text i 0 h, sets_append l at (take i text) (get_or text i 0 ∷ []), length-take-le i text (omega arith))
+    (l : List ℕ) (at : ℕ) (text : List ℕ) → at + length text ≤ length l → paste l at text (length text) ≡ sets l at text
+copied l at text h = paste_all l at text _ refl ∙ sym (rw (← append_assoc) (sets-eq text l at h))
 
 pub nothing_put : (at : ℕ) (l : List ℕ) → TextAt at [] l l at
 nothing_put at l = record { buffer = refl; end = sym (add-zero at) }

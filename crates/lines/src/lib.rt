@@ -116,14 +116,12 @@ fn enter_at(number: u32, position: &[u8]) -> Command
 fn first_blank(bytes: &[u8]) -> usize
     ensures { (result ≡ field_length bytes.now) × (result ≤ length bytes.now) }
 {
-    let mut i = 0;
-    while i < bytes.len() {
-        if bytes[i] == b' ' {
+    for (i, byte) in bytes.iter().enumerate() {
+        if *byte == b' ' {
             return i;
         }
-        i += 1;
     }
-    i
+    bytes.len()
 }
 
 // A blank is no digit, so a field that is not alone is refused too.
@@ -140,9 +138,7 @@ fn read_natural(field: &[u8]) -> Natural
         return Natural::Wrong;
     }
     let mut value: u64 = 0;
-    let mut i = 0;
-    while i < field.len() {
-        let c = field[i];
+    for &c in field {
         if c < 48 {
             return Natural::Wrong;
         }
@@ -153,7 +149,6 @@ fn read_natural(field: &[u8]) -> Natural
         if value > 4294967295 {
             return Natural::Wrong;
         }
-        i += 1;
     }
     Natural::Of(value as u32)
 }
@@ -261,12 +256,9 @@ pub fn put(out: &mut [u8], at: usize, text: &[u8]) -> usize
     requires { at + length text.now ≤ length out.old }
     ensures { TextAt at text.now out.old out.new result }
 {
-    let mut i = 0;
-    while i < text.len() {
-        out[at + i] = text[i];
-        i += 1;
-    }
-    at + i
+    let end = at + text.len();
+    out[at..end].copy_from_slice(text);
+    end
 }
 
 fn put_digits(out: &mut [u8], at: usize, n: u32) -> usize

@@ -15,7 +15,6 @@ use Rattle.calls.specs.Mend.{valid_item, valid_items}
 
 -- The items before i are valid.
 pub record Valid (ns ws os : List ℕ) (i : ℕ) : Type 0 where
-  pub upto : i ≤ length ns
   pub rest : valid_items ns ws os ≡ valid_items (drop i ns) (drop i ws) (drop i os)
 
 module _ (ns ws os : List ℕ) (i : ℕ) (C : Valid ns ws os i) (ew : length ws ≡ length ns) (eo : length os ≡ length ns) (h : i < length ns) where
@@ -27,7 +26,7 @@ module _ (ns ws os : List ℕ) (i : ℕ) (C : Valid ns ws os i) (ew : length ws 
   valid-fails e = sym (split ∙ rw e)
 
   pub valid-next : valid_item (get_or ns i 0) (get_or ws i 0) (get_or os i 0) ≡ true → Valid ns ws os (i + 1)
-  valid-next e = record { upto = omega arith; rest = split ∙ rw (e, add-one i) }
+  valid-next e = record { rest = split ∙ rw (e, add-one i) }
 
 pub valid-all : (ns ws os : List ℕ) (i : ℕ) → Valid ns ws os i → length ns ≤ i → true ≡ valid_items ns ws os
 valid-all ns ws os i C h = sym (C.rest ∙ none (drop i ns) (lib.ListN.drop_of_length-le ns h))

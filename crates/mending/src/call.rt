@@ -12,7 +12,7 @@ use crate::contents::items_valid;
 use crate::item_homes::find_homes;
 use crate::renewing::renew;
 use call_guard::{all_fit, at_rest, guard, turn_away};
-use calls::answers::{Admission, Placed, Refusal};
+use calls::answers::{Placed, Refusal};
 use calls::records::GrowthRecord;
 use hashing::{Geometry, Growth, Parameters};
 
@@ -97,7 +97,7 @@ fn mend_at(
         poolwords.len(),
         poolowners.len(),
     );
-    if let Admission::Refused(refusal) = guard(parameters, growth, fits) {
+    if let Err(refusal) = guard(parameters, growth, fits) {
         return Placed::Refused(refusal, 0);
     }
     let answer = mend_file(

@@ -6,6 +6,7 @@ use hashing::Parameters;
 use page_plan::gather;
 
 // Whether the stars of one number are alike, and if so how many words are left, one for each number.
+// Stays: `Collects` of specs/Collect, which may not change, takes this record.
 #[derive(Clone, Copy)]
 pub struct Collected {
     pub alike: bool,

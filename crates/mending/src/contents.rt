@@ -23,12 +23,10 @@ pub fn items_valid(numbers: &[u32], words: &[u64], owners: &[u8]) -> bool
     requires { (length words.now ≡ length numbers.now) × (length owners.now ≡ length numbers.now) }
     ensures { result ≡ valid_items numbers.now words.now owners.now }
 {
-    let mut i = 0;
-    while i < numbers.len() {
+    for i in 0..numbers.len() {
         if !item_valid(numbers[i], words[i], owners[i]) {
             return false;
         }
-        i += 1;
     }
     true
 }

@@ -34,11 +34,11 @@ fn write_back(
     plan_transfer::fetch(
         numbers, words, owners, pool, waiting, poolowners, 0, items, 0, 0, 0,
     );
-    buffers::copy_32(numbers, 0, pool, 0, items);
-    buffers::copy_64(words, 0, waiting, 0, items);
-    buffers::copy_8(owners, 0, poolowners, 0, items);
+    buffers::copy(numbers, 0, pool, 0, items);
+    buffers::copy(words, 0, waiting, 0, items);
+    buffers::copy(owners, 0, poolowners, 0, items);
     let pages = separators.len();
-    buffers::copy_8(separators, 0, planned, 0, pages);
+    buffers::copy(separators, 0, planned, 0, pages);
 }
 
 // The answer is whether nothing is carried past the last page. If something is, the file stays.

@@ -117,7 +117,7 @@ pub fn find_kept(
     }
     let places = geometry.parameters.places as usize;
     let page = named.page;
-    buffers::copy_32(pool, page * places, &homes, 0, places);
+    buffers::copy(pool, page * places, &homes, 0, places);
     named
 }
 

@@ -1,15 +1,14 @@
 -- Stars left out by their numbers, one number more or fewer.
 use mathlib.Core.Path.{◌≡◌, refl, sym, ap, subst, ◌∙◌}
-use mathlib.Core.Bool.{Bool, true, false, not, ◌||◌, ◌&&◌, true≢false}
+use mathlib.Core.Bool.{Bool, true, false, not, ◌||◌, ◌&&◌}
 use mathlib.Core.List.{List, [], ◌∷◌, Memᴰ}
 use mathlib.Core.Logic.{⊎_elim}
-use Prim.Native.Nat.{ℕ, suc, ◌≤◌, ◌<◌}
+use Prim.Native.Nat.{ℕ}
 use native.Mathlib.Omega.{arith}
 use lib.Dec.{eqb}
-use lib.ListN.{length, take, drop, get_or}
 use borrow.Author.Tests.{eqb-true, eqb-false, eq-eqb, ne_eqb, not-true}
 use Rattle.buffers.specs.Lists.{among}
-use Rattle.placement.specs.Rule.{Star, filter, insert, without}
+use Rattle.placement.specs.Rule.{Star, insert, without}
 use Rattle.placement.proofs.Filters.{filter-ext_on, filter-filter, filter-all-on, member_filter, filter-member}
 use Rattle.placement.proofs.Order.{Rising, Absent, rising-filter, rising-insert, rising-same, rising-without, member_insert, inserted, insert-keeps, member_without, without-member}
 use Rattle.placement.proofs.Pages.{Numbered}

@@ -1,10 +1,9 @@
 -- On a file that the rule lays: what an entry leaves, and what a removal from a home page that has not overflowed.
 use mathlib.Core.Path.{◌≡◌, refl, sym, ap, subst, ◌∙◌}
 use mathlib.Core.Bool.{Bool, true, false, not, false≢true, and-eq-true_iff}
-use mathlib.Core.List.{List, [], Memᴰ}
+use mathlib.Core.List.{List, Memᴰ}
 use mathlib.Core.Logic.{◌⊎◌, inl, inr, ⊎_elim}
-use Prim.Native.Nat.{ℕ, suc, ◌+◌, ◌-◌, ◌*◌, ◌≤◌, ◌<◌}
-use native.Mathlib.Nat.{le_refl}
+use Prim.Native.Nat.{ℕ, ◌+◌, ◌-◌, ◌*◌, ◌≤◌, ◌<◌}
 use native.Mathlib.Omega.{arith}
 use lib.Dec.{leb, ltb}
 use lib.ListN.{length, get_or}
@@ -15,20 +14,20 @@ use Rattle.hashing.specs.declared.Parameters.{Parameters}
 use Rattle.hashing.specs.declared.Growth.{Growth}
 use Rattle.generator.specs.Generator.{top_of_lem}
 use Rattle.hashing.specs.Limits.{valid_parameters, valid_growth}
-use Rattle.pages.specs.Page.{part, place_of, held_at}
+use Rattle.pages.specs.Page.{part, place_of}
 use Rattle.pages.specs.Position.{valid_number, valid_word}
-use Rattle.placement.specs.Rule.{Star, Hash, pages, left, insert, without, star_with}
-use Rattle.placement.specs.File.{File, gathered, replaced, laid, greatest, file_of}
+use Rattle.placement.specs.Rule.{Star, Hash, insert, without, star_with}
+use Rattle.placement.specs.File.{File, laid, greatest, file_of}
 use Rattle.placement.specs.Shape.{Sized}
 use Rattle.placement.specs.Hash.{hash_of, sound_at, named_page_lem}
 use Rattle.placement.proofs.Order.{Rising, Absent, rising-insert, rising-without, member_without}
-use Rattle.placement.proofs.Pages.{Proper, proper-insert, proper-filter}
+use Rattle.placement.proofs.Pages.{Proper, proper-insert}
 use Rattle.placement.proofs.Files.{sized-laid}
 use Rattle.placement.proofs.Sound.{sound-laid, facts-sound}
 use Rattle.placement.proofs.Search.{found, missing}
 use Rattle.placement.proofs.Probing.{bounded-real, homed-real}
 use Rattle.placement.proofs.Entry.{removed}
-use Rattle.reach.specs.Reach.{enters_within, first_unsound_lem, pages_to, removal_end, holding}
+use Rattle.reach.specs.Reach.{enters_within, first_unsound_lem, removal_end, holding}
 use Rattle.reach.proofs.Reaching.{Reach, entry-reach, removal_reach_lem}
 use Rattle.reach.proofs.Entries.{entry-laid, entry-carried}
 use Rattle.reach.proofs.Surveyed.{homes_from, surveyed-pages}

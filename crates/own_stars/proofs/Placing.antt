@@ -1,6 +1,6 @@
 -- The stars of a page's value, place by place.
 use mathlib.Core.Path.{◌≡◌, refl, sym, ap, subst, ◌∙◌}
-use mathlib.Core.Bool.{Bool, true, false, true≢false, false≢true}
+use mathlib.Core.Bool.{Bool, true, false, false≢true}
 use mathlib.Core.List.{List, [], ◌∷◌, Memᴰ}
 use Prim.Native.Nat.{ℕ, zero, suc, ◌+◌, ◌-◌, ◌*◌, ◌≤◌, ◌<◌}
 use native.Mathlib.Decide.{ℕ_discrete}
@@ -9,7 +9,6 @@ use borrow.Author.Tests.{eq-eqb, ne_eqb}
 use lib.ListN.{length, take, drop, get_or, set, length-set}
 use lib.Seq.{length-take-le, drop-cons, get_or-take, get_or-set_same, get_or-set_other}
 use Rattle.pages.proofs.Numbers.{number-valid}
-use Rattle.buffers.specs.Lists.{among}
 use Rattle.hashing.specs.declared.Parameters.{Parameters}
 use Rattle.hashing.specs.declared.Growth.{Growth}
 use Rattle.hashing.specs.Limits.{valid_parameters, valid_growth}
@@ -24,10 +23,9 @@ use Rattle.placement.specs.Rule.{Star, insert, without, star_with}
 use Rattle.placement.specs.File.{File}
 use Rattle.placement.specs.Shape.{Sized}
 use Rattle.placement.specs.Ready.{Pooled}
-use Rattle.placement.proofs.Order.{Rising, Absent, inserted}
-use Rattle.placement.proofs.Pages.{Proper, Numbered}
-use Rattle.own_stars.specs.Own.{apart_from, Fits, LaidOut, OneEntered, EntersOne, Enterable, TakesOne, numbers_of_lem, rest_from_lem, Listed, EnteredBelow, PlaceEntered, OwnEntered, EntersPlace, Takeable, TakeableOwn, OwnOf, own_number}
-use Rattle.generator.specs.Generator.{top_of_lem}
+use Rattle.placement.proofs.Order.{Absent, inserted}
+use Rattle.placement.proofs.Pages.{Numbered}
+use Rattle.own_stars.specs.Own.{apart_from, LaidOut, EntersOne, Enterable, TakesOne, numbers_of_lem, rest_from_lem, Listed, EnteredBelow, OwnEntered, EntersPlace, Takeable, TakeableOwn, OwnOf, own_number}
 use Rattle.own_stars.proofs.Among.{apart_none, apart-zero, apart-without, apart-absent, apart-insert}
 use Rattle.own_stars.proofs.Laying.{laid-sized}
 

@@ -116,14 +116,12 @@ pub fn enter_own(
     ensures { EntersOwn geometry.parameters geometry.growth (before separators numbers words owners) (after separators numbers words owners) own from result }
 {
     let places = geometry.parameters.places as usize;
-    let mut i = from;
-    while i < places {
+    for i in from..places {
         if !enter_place(
             table, geometry, separators, numbers, words, owners, pool, waiting, poolowners, own, i,
         ) {
             return i;
         }
-        i += 1;
     }
-    i
+    places
 }

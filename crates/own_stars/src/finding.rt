@@ -23,12 +23,9 @@ pub fn find_own(
     let mut own = pages::page::load(numbers, words, owners, places, page);
     let first = page * places;
     let home = page as u32;
-    let mut i = 0;
-    while i < places {
-        let at = i;
-        i += 1;
-        if homes[first + at] != home {
-            own.numbers[at] = 0;
+    for i in 0..places {
+        if homes[first + i] != home {
+            own.numbers[i] = 0;
         }
     }
     own

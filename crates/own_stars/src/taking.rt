@@ -72,9 +72,7 @@ pub fn take_own(
     requires takeable_own { TakeableOwn geometry.parameters geometry.growth (held separators.old numbers.old words.old owners.old) own page }
     ensures { TakesOwn geometry.parameters geometry.growth (before separators numbers words owners) (after separators numbers words owners) own }
 {
-    let mut i = geometry.parameters.places as usize;
-    while 0 < i {
-        i -= 1;
+    for i in (0..geometry.parameters.places as usize).rev() {
         let number = own.numbers[i];
         if number != 0 {
             take_one(

@@ -7,19 +7,19 @@ use native.Mathlib.Nat.{zero-add, zero-mul, suc-mul}
 use native.Mathlib.Decide.{dec_lt}
 use native.Mathlib.Omega.{arith}
 use lib.Dec.{eqb}
-use lib.ListN.{length, take, length-append}
+use lib.ListN.{length, get_or, take, length-append}
 use lib.Seq.{slice, length-slice, take_all}
 use borrow.Author.Tests.{eq-eqb, ne_eqb, eqb-true, eqb-false}
 use Rattle.hashing.specs.declared.Parameters.{Parameters}
 use Rattle.generator.specs.Generator.{top_of_lem}
 use Rattle.page_separator.specs.Lists.{selected}
-use Rattle.page_separator.specs.Probes.{under, staying_words, passing_words, words_separator}
+use Rattle.page_separator.specs.Probes.{Probing, under, staying_words, passing_words, words_separator}
 use Rattle.page_separator.proofs.Cutting.{separator_fits}
 use Rattle.page_plan.specs.Gather.{group, grouped}
 use Rattle.page_plan.specs.Plans.{carried_on_lem, remains, Planned, Started, Settleable, Settling, StretchSettled, AllPlaced, end_of}
 use Rattle.page_plan.proofs.Grouping.{grouped-add}
 use Rattle.page_plan.proofs.Blocks.{plans-add}
-use Rattle.page_plan.proofs.Stretch.{ends-within, ends_last, planned-all}
+use Rattle.page_plan.proofs.Stretch.{probed-near, probed-inside, probed-within, ends-within, ends_last, planned-all}
 
 -- those that a test takes and those that it leaves are all
 both-length : (t : ℕ → Bool) (l : List ℕ) → length (selected t l) + length (selected (λ w. not (t w)) l) ≡ length l
@@ -111,6 +111,19 @@ module _ (q : Parameters) (lo count carried end : ℕ) (W pool planned ends : Li
 
   pub from-inside : from ≤ end
   from-inside = within q lo count carried end _ W pool planned ends size P.inside P.grouped_are pool' W' planned' from v I
+
+  -- the words that wait up to the end of the next page's group probe that page
+  pub page_probing : v < count → Probing (lo + v) from (get_or ends v 0) W'
+  page_probing h =
+      let reach : get_or ends v 0 ≡ end_of carried lo (slice carried end W) (suc v) = P.grouped_are.ended v h in
+      let within : end_of carried lo (slice carried end W) (suc v) ≤ length W' = probed-within _ _ _ _ _ _ _ _ _ P.grouped_are _ _ _ _ _ I h in
+      record {
+        order = rw reach (probed-inside _ _ _ _ _ _ _ _ _ P.grouped_are _ _ _ _ _ I h);
+        inside = rw reach within;
+        most = omega (arith, reach, within, I.long_waiting, P.few);
+        page = omega (arith, P.pages);
+        homes = rw reach (probed-near _ _ _ _ _ _ _ _ _ P.grouped_are _ _ _ _ _ I h P.near);
+      }
 
   pub stretch-settled : (spare : ℕ) → (v < count → spare + (count - v) * q.places < end - from)
       → StretchSettled q lo count end spare (take carried W) (slice carried end W) pool pool' planned planned' W' from

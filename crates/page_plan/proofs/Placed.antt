@@ -14,7 +14,6 @@ use Rattle.buffers.proofs.Written.{taken-written, paste_written}
 use Rattle.buffers.specs.Lists.{written}
 use Rattle.hashing.specs.declared.Parameters.{Parameters}
 use Rattle.hashing.specs.declared.Growth.{Growth}
-use Rattle.hashing.specs.Home.{home}
 use Rattle.placement.specs.Rule.{Star, Hash, Contents, pages, left, insert, without, separators, star_with}
 use Rattle.placement.specs.File.{File, gathered, column, replaced}
 use Rattle.placement.specs.Hash.{hash_of}

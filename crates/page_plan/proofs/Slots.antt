@@ -2,14 +2,15 @@
 use mathlib.Core.Path.{◌≡◌, refl, sym, ap, ◌∙◌}
 use mathlib.Core.Bool.{Bool, true, false, cond}
 use mathlib.Core.List.{List, ◌++◌, map}
-use Prim.Native.Nat.{ℕ, ◌+◌, ◌-◌, ◌≤◌, ◌<◌}
+use Prim.Native.Nat.{ℕ, ◌+◌, ◌-◌, ◌≤◌, ◌<◌, zero-le}
 use native.Mathlib.Nat.{zero-add, add_comm}
 use native.Mathlib.Omega.{arith}
 use lib.Dec.{leb}
 use lib.ListN.{length, get_or, set, take, drop, length-drop, length-map, get_or-map, get_or-eq_default}
-use lib.Seq.{slice, get_or-take, get_or-drop, get_or-append-add, length-take-le, take_at}
+use lib.Seq.{slice, paste, get_or-take, get_or-drop, get_or-append-add, length-take-le, take_at}
 use borrow.Author.Tests.{leb-true, leb-false}
 use Rattle.buffers.specs.Lists.{padded}
+use Rattle.std.proofs.lemmas.List.Edits.{take-paste}
 use Rattle.buffers.proofs.Copies.{Copied, turn}
 use Rattle.buffers.proofs.Lists.{drop-take, padded-item, length-padded}
 pub use Rattle.buffers.proofs.Written.{all-written}
@@ -67,3 +68,11 @@ moved_down W e from end j a b ej c =
     ∙ take_at (take j (drop from W)) (drop (0 + j) W) j size
     ∙ ap (λ (k : ℕ). take k (drop from W)) ej
     ∙ sym (drop-take from end W)
+
+-- the same at once
+pub closed_up : (W : List ℕ) (from end : ℕ) → from ≤ end → end ≤ length W
+    → take (end - from) (paste W 0 (drop from W) (end - from)) ≡ slice from end W
+closed_up W from end a b =
+    let whole : take (0 + (end - from)) (paste W 0 (drop from W) (end - from)) ≡ take (end - from) (drop from W)
+    = take-paste W 0 (drop from W) (end - from) zero-le (rw (length-drop from W) (omega arith)) in
+    ap (λ (k : ℕ). take k (paste W 0 (drop from W) (end - from))) (sym (zero-add (end - from))) ∙ whole ∙ sym (drop-take from end W)

@@ -32,10 +32,8 @@ pub fn store_sources(pool: &mut [u32], slots: &[u64; 32], at: usize, places: usi
     requires kept_le_places { (kept ≤ places) × (kept ≤ length slots.now) }
     ensures { pool.new ≡ written at (padded places (map source_of (take kept slots.now))) pool.old }
 {
-    let mut i = 0;
-    while i < places {
+    for i in 0..places {
         pool[at + i] = source_at(slots, kept, i);
-        i += 1;
     }
 }
 
@@ -46,11 +44,7 @@ fn close_up(waiting: &mut [u64], from: usize, end: usize) -> usize
     ensures waiting_after { take result waiting.new ≡ slice from end waiting.old }
 {
     let left = end - from;
-    let mut i = 0;
-    while i < left {
-        waiting[i] = waiting[from + i];
-        i += 1;
-    }
+    buffers::move_down(waiting, 0, from, left);
     left
 }
 
@@ -107,9 +101,8 @@ fn settle_run(
     ensures ended { 2049 ≤ length table.now → Ended parameters count end spare result }
 {
     let places = parameters.places as usize;
-    let mut v = done.pages;
     let mut from = done.from;
-    while v < count {
+    for v in done.pages..count {
         if spare + (count - v) * places < end - from {
             return Progress { pages: v, from };
         }
@@ -127,9 +120,8 @@ fn settle_run(
             reach,
             lo + v,
         );
-        v += 1;
     }
-    Progress { pages: v, from }
+    Progress { pages: count, from }
 }
 
 // The same by the whole table, which is copied once and lent. Each table has a function of its own, as in `settle_beyond`.
@@ -151,16 +143,16 @@ fn run_beyond(
     ensures ended { Ended parameters count end spare result }
 {
     if parameters.multiplier == 48271 {
-        return run_by_48271(
+        return run_by_whole::<48271>(
             parameters, pool, waiting, planned, ends, lo, count, end, spare, done,
         );
     }
-    run_by_16807(
+    run_by_whole::<16807>(
         parameters, pool, waiting, planned, ends, lo, count, end, spare, done,
     )
 }
 
-fn run_by_48271(
+fn run_by_whole<const MULTIPLIER: u32>(
     parameters: Parameters,
     pool: &mut [u32],
     waiting: &mut [u64],
@@ -172,35 +164,12 @@ fn run_by_48271(
     spare: usize,
     done: Progress,
 ) -> Progress
-    requires parameters_value { (valid_parameters parameters ≡ true) × (parameters.multiplier ≡ 48271) }
+    requires parameters_value { (valid_parameters parameters ≡ true) × (parameters.multiplier ≡ MULTIPLIER) }
     requires spare_bound { (spare ≤ 32768) × PartSettled parameters lo count end ends.now pool.old waiting.old planned.old done }
     ensures continues { Continues parameters lo count end ends.now pool waiting planned done result }
     ensures ended { Ended parameters count end spare result }
 {
-    let table = generator::multipliers(48271);
-    settle_run(
-        &table, parameters, pool, waiting, planned, ends, lo, count, end, spare, done,
-    )
-}
-
-fn run_by_16807(
-    parameters: Parameters,
-    pool: &mut [u32],
-    waiting: &mut [u64],
-    planned: &mut [u8],
-    ends: &[u32],
-    lo: usize,
-    count: usize,
-    end: usize,
-    spare: usize,
-    done: Progress,
-) -> Progress
-    requires parameters_value { (valid_parameters parameters ≡ true) × (parameters.multiplier ≡ 16807) }
-    requires spare_bound { (spare ≤ 32768) × PartSettled parameters lo count end ends.now pool.old waiting.old planned.old done }
-    ensures continues { Continues parameters lo count end ends.now pool waiting planned done result }
-    ensures ended { Ended parameters count end spare result }
-{
-    let table = generator::multipliers(16807);
+    let table = generator::multipliers(MULTIPLIER);
     settle_run(
         &table, parameters, pool, waiting, planned, ends, lo, count, end, spare, done,
     )

@@ -12,6 +12,9 @@ use Rattle.hashing.specs.declared.Parameters.{Parameters}
 use Rattle.generator.specs.Generator.{top_of_lem}
 use Rattle.hashing.specs.Geometry.{multiplier_of}
 use Rattle.generator.proofs.Scrambling.{signature-below}
+use Rattle.hashing.specs.Limits.{valid_parameters}
+use Rattle.hashing.proofs.Bounds.{limits}
+use Rattle.generator.proofs.Scrambling.{top_most}
 use Rattle.page_separator.specs.Lists.{selected, having, sum_to}
 use Rattle.page_separator.specs.Words.{home_of, number_in}
 use Rattle.page_separator.specs.Probes.{signature_of, under, staying_words, passing_words, words_separator_from, words_separator}
@@ -154,3 +157,9 @@ module _ (q : Parameters) (p : ℕ) where
     pub staying-full : (l : List ℕ) (v : ℕ) → top_of_lem q.bits ≤ v → length (staying_words q p v l) ≡ length l
     staying-full l v h =
         omega (arith, ap length (staying-top l), staying-mono l (top_of_lem q.bits) v h, staying-length v l)
+
+-- a signature is one of 255
+pub signature_byte : (q : Parameters) (p w : ℕ) → valid_parameters q ≡ true → signature_of q p w < 255
+signature_byte q p w v =
+    let l = limits q v in
+    omega (arith, signature-small q p l.bits_least w, top_most q.bits l.bits_most)

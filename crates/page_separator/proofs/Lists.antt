@@ -4,7 +4,6 @@ use mathlib.Core.Bool.{Bool, true, false, cond}
 use mathlib.Core.List.{List, [], ◌∷◌, ◌++◌}
 use Prim.Native.Nat.{ℕ, zero, suc, ◌+◌, ◌-◌, ◌≤◌, ◌<◌, zero-le}
 use native.Mathlib.Nat.{not-suc-le-zero, le_of_suc-le-suc}
-use native.Mathlib.Decide.{dec_lt}
 use native.Mathlib.Omega.{arith}
 use lib.ListN.{length, get_or, take}
 use lib.Seq.{slice, length-slice, get_or-drop, get_or-take}
@@ -111,11 +110,3 @@ slice_all q f t l i e ht hf hi =
     let there : get_or (slice f t l) (i - f) 0 ≡ get_or l i 0
     = get_or-drop f (take t l) (i - f) 0 ∙ ap (λ (k : ℕ). get_or (take t l) k 0) back ∙ get_or-take t l i 0 hi in
     rw there at (all_get_d q (slice f t l) (i - f) e (omega arith))
-
--- one item more is not below the least
-pub least-next : (item : ℕ → ℕ) (least from i : ℕ) → ((j : ℕ) → from ≤ j → j < i → least ≤ item j) → least ≤ item i → (j : ℕ) → from ≤ j → j < i + 1 → least ≤ item j
-least-next item least from i done here j f h = go (dec_lt j i)
-  where
-    go : Dec (j < i) → least ≤ item j
-    go (yes d) = done j f d
-    go (no d) = let same : j ≡ i = omega arith in rw same here

@@ -16,9 +16,7 @@ fn counted_below(counts: &[u16; 256], all: usize, most: u32, top: u32) -> usize
     ensures { result ≡ sum_to most counts.now }
 {
     let mut below = all;
-    let mut v = top;
-    while most < v {
-        v -= 1;
+    for v in (most..top).rev() {
         below -= counts[v as usize] as usize;
     }
     below
@@ -32,6 +30,7 @@ fn cut(counts: &[u16; 256], top: u32, all: usize, room: usize) -> u32
 {
     let mut below = all;
     let mut v = top;
+    // Stays: the count that is left ends the loop, and v is the answer.
     while room < below {
         v -= 1;
         below -= counts[v as usize] as usize;

@@ -64,17 +64,11 @@ pub fn all_near(waiting: &[u64], from: usize, reach: usize, page: usize) -> bool
         return true;
     }
     let least = pack((page - 43) as u32, 0, 0);
-    let mut i = from;
-    while i < reach {
-        if waiting[i] < least {
-            return false;
-        }
-        i += 1;
-    }
-    true
+    waiting[from..reach].iter().all(|word| least <= *word)
 }
 
 // How many words have each signature; those of the last 256 words are kept.
+#[tactic(auto, using(crate::proofs::Cutting::signature_byte))]
 pub fn tally_signatures(
     table: &[u32],
     parameters: Parameters,
@@ -95,14 +89,12 @@ pub fn tally_signatures(
     ensures signed { Signed parameters page from reach waiting.now signatures.new }
 {
     let mut factor = first_factor(table, parameters);
-    let mut i = from;
-    while i < reach {
+    for i in from..reach {
         let word = waiting[i];
         factor = factor_for(table, parameters, factor, page, word);
         let signature = signature_of(parameters, factor, page, word);
         counts[signature as usize] += 1;
         signatures[i % 256] = signature as u8;
-        i += 1;
     }
 }
 

@@ -2,14 +2,13 @@
 use mathlib.Core.Path.{◌≡◌, refl, sym, ap, ◌∙◌}
 use mathlib.Core.Bool.{Bool, true, false, not, ◌&&◌}
 use mathlib.Core.List.{List, [], ◌∷◌}
-use Prim.Native.Nat.{ℕ, zero, suc, ◌+◌, ◌≤◌, ◌<◌}
-use native.Mathlib.Nat.{le_antisymm}
-use native.Mathlib.Numerals.{add-one}
+use Prim.Native.Nat.{ℕ, ◌+◌, ◌-◌, ◌≤◌}
 use native.Mathlib.Omega.{arith}
 use lib.Dec.{eqb}
-use lib.ListN.{length, get_or, take, drop, length-drop}
-use lib.Seq.{get_or-drop}
-use borrow.Author.Tests.{eq-eqb, ne_eqb, not-true, not-false}
+use lib.ListN.{length, take, drop, length-drop}
+use lib.Seq.{length-take-le}
+use Rattle.std.specs.List.{fold, zip}
+use borrow.Author.Tests.{not-true, not-false}
 use Rattle.buffers.proofs.Lists.{alike_self, alike_same}
 use Rattle.buffers.specs.Lists.{alike}
 use Rattle.buffers.proofs.Tests.{and-true}
@@ -17,46 +16,26 @@ use Rattle.pages.specs.Page.{part}
 use Rattle.page_store.specs.Columns.{Columns}
 use Rattle.page_store.specs.Stores.{columns_change}
 
-and_right : (t : Bool) → t && true ≡ t
-and_right true = refl
-and_right false = refl
-
-and_no : (t : Bool) → t && false ≡ false
-and_no true = refl
-and_no false = refl
-
 and_assoc : (s t u : Bool) → s && (t && u) ≡ (s && t) && u
 and_assoc true t u = refl
 and_assoc false t u = refl
 
-alike_next : (i : ℕ) (k l : List ℕ) → i < length k → i < length l
-    → alike (take (suc i) k) (take (suc i) l) ≡ alike (take i k) (take i l) && eqb (get_or k i 0) (get_or l i 0)
+-- items compared pair by pair, with what was found before them
+folded : (same : Bool) (k l : List ℕ) → length k ≡ length l → fold (λ (s : Bool) (p : ℕ × ℕ). s && eqb p.0 p.1) same (zip k l) ≡ same && alike k l
 unfolding alike
-alike_next i [] l h g = absurd (omega arith)
-alike_next i (x ∷ xs) [] h g = absurd (omega arith)
-alike_next zero (x ∷ xs) (y ∷ ys) h g = and_right (eqb x y)
-alike_next (suc i) (x ∷ xs) (y ∷ ys) h g =
-    ap (λ (t : Bool). eqb x y && t) (alike_next i xs ys (omega arith) (omega arith))
-    ∙ and_assoc (eqb x y) (alike (take i xs) (take i ys)) (eqb (get_or xs i 0) (get_or ys i 0))
+folded true [] [] e = refl
+folded false [] [] e = refl
+folded same [] (y ∷ ys) e = absurd (omega (arith, e))
+folded same (x ∷ xs) [] e = absurd (omega (arith, e))
+folded same (x ∷ xs) (y ∷ ys) e = folded (same && eqb x y) xs ys (omega (arith, e)) ∙ sym (and_assoc same (eqb x y) (alike xs ys))
 
--- one turn of the loop that compares
-module _ (at items i : ℕ) (k l : List ℕ) (hk : at + items ≤ length k) (hl : at + items ≤ length l) (h : i < items) where
-  next : alike (take (i + 1) (drop at k)) (take (i + 1) (drop at l)) ≡ alike (take i (drop at k)) (take i (drop at l)) && eqb (get_or k (at + i) 0) (get_or l (at + i) 0)
-  next =
-      rw (add-one i, ← get_or-drop at k i 0, ← get_or-drop at l i 0)
-      (alike_next i (drop at k) (drop at l) (rw (length-drop at k) (omega arith)) (rw (length-drop at l) (omega arith)))
-
-  pub agree_no : (get_or k (at + i) 0 ≡ get_or l (at + i) 0 → ⊥) → false ≡ alike (take (i + 1) (drop at k)) (take (i + 1) (drop at l))
-  agree_no e = sym (next ∙ rw (ne_eqb (get_or k (at + i) 0) (get_or l (at + i) 0) e) (and_no (alike (take i (drop at k)) (take i (drop at l)))))
-
-  pub agree_yes : (same : Bool) → get_or k (at + i) 0 ≡ get_or l (at + i) 0 → same ≡ alike (take i (drop at k)) (take i (drop at l))
-      → same ≡ alike (take (i + 1) (drop at k)) (take (i + 1) (drop at l))
-  agree_yes same e s =
-      s ∙ sym (next ∙ rw (eq-eqb (get_or k (at + i) 0) (get_or l (at + i) 0) e) (and_right (alike (take i (drop at k)) (take i (drop at l)))))
-
-pub agree_end : (at : ℕ) (k l : List ℕ) (items i : ℕ) {same : Bool} → i ≤ items → items ≤ i → same ≡ alike (take i (drop at k)) (take i (drop at l))
-    → same ≡ alike (take items (drop at k)) (take items (drop at l))
-agree_end at k l items i a b e = e ∙ ap (λ (n : ℕ). alike (take n (drop at k)) (take n (drop at l))) (le_antisymm a b)
+-- two parts of one place and size
+pub same-alike : (at items : ℕ) (k l : List ℕ) → at + items ≤ length k → at + items ≤ length l
+    → fold (λ (s : Bool) (p : ℕ × ℕ). s && eqb p.0 p.1) true (zip (take (at + items - at) (drop at k)) (take (at + items - at) (drop at l)))
+    ≡ alike (take items (drop at k)) (take items (drop at l))
+same-alike at items k l h g =
+    let size : at + items - at ≡ items = omega arith in
+    rw size (folded true (take items (drop at k)) (take items (drop at l)) (length-take-le items (drop at k) (rw (length-drop at k) (omega arith)) ∙ sym (length-take-le items (drop at l) (rw (length-drop at l) (omega arith)))))
 
 -- A page on which two sets of columns agree.
 pub record SamePage (b : ℕ) (old new : Columns) (r : ℕ) : Type 0 where

@@ -43,8 +43,7 @@ fn store_pages(
         (changed_pages upward places lo count (columns numbers.old words.old owners.old) (columns poolnumbers.now poolwords.now poolowners.now))) owners.old }
 {
     let mut stored = 0;
-    let mut turn = 0;
-    while turn < count {
+    for turn in 0..count {
         let page = page_in_turn(upward, lo, count, turn);
         if page_differs(
             numbers,
@@ -71,7 +70,6 @@ fn store_pages(
             );
             stored += 1;
         }
-        turn += 1;
     }
     true
 }
@@ -120,7 +118,7 @@ pub fn store(
         upward,
     );
     if all {
-        buffers::copy_8(separators, lo, planned, lo, count);
+        buffers::copy(separators, lo, planned, lo, count);
     }
     all
 }

@@ -5,7 +5,7 @@ ghost use Rattle.pages.specs.Page.{part};
 ghost use Rattle.page_store.specs.Stores.{columns_change};
 ghost use Rattle.page_store.specs.Columns.{columns};
 
-use crate::items::{same_8, same_32, same_64};
+use crate::items::same;
 
 pub fn page_differs(
     numbers: &[u32],
@@ -22,14 +22,15 @@ pub fn page_differs(
     requires places_in_bounds_3 { (page * places + places ≤ length owners.now) × (page * places + places ≤ length poolowners.now) }
     ensures { result ≡ columns_change places (columns numbers.now words.now owners.now) (columns poolnumbers.now poolwords.now poolowners.now) page }
 {
-    let at = page * places;
-    if !same_32(numbers, poolnumbers, at, places) {
+    let from = page * places;
+    let to = from + places;
+    if !same(&numbers[from..to], &poolnumbers[from..to]) {
         return true;
     }
-    if !same_64(words, poolwords, at, places) {
+    if !same(&words[from..to], &poolwords[from..to]) {
         return true;
     }
-    !same_8(owners, poolowners, at, places)
+    !same(&owners[from..to], &poolowners[from..to])
 }
 
 pub fn store_page(
@@ -50,7 +51,7 @@ pub fn store_page(
     ensures owners_after { owners.new ≡ written (page * places) (part places page poolowners.now) owners.old }
 {
     let at = page * places;
-    buffers::copy_32(numbers, at, poolnumbers, at, places);
-    buffers::copy_64(words, at, poolwords, at, places);
-    buffers::copy_8(owners, at, poolowners, at, places);
+    buffers::copy(numbers, at, poolnumbers, at, places);
+    buffers::copy(words, at, poolwords, at, places);
+    buffers::copy(owners, at, poolowners, at, places);
 }

@@ -1,5 +1,5 @@
 -- The place of a number in a page: it is within the page; in an orderly page (numbers that rise strictly, then empty places) a
--- number is held exactly if it occurs. `Passed` is what the loop of `search` keeps.
+-- number is held exactly if it occurs. `Searched` is what the loop of `search` keeps.
 -- Assumes nothing.
 use mathlib.Core.Path.{◌≡◌, refl, sym, ◌∙◌}
 use mathlib.Core.Bool.{Bool, true, false, cond, ◌&&◌, or-true, true≢false, and-eq-true_iff}
@@ -161,3 +161,28 @@ module _ {places k i : ℕ} {ns : List ℕ} (before : Passed places k ns i) wher
       let none : drop places (take places ns) ≡ [] = drop_of_length-le (take places ns) {i = places} (omega arith) in
       let place : place_of k (take places ns) ≡ places = before.is ∙ rw (e, none, add-zero) in
       rw (place, size, le-ltb places places (omega arith))
+
+-- the same of a search over the numbers alone
+pub record Searched (k : ℕ) (ns : List ℕ) (i : ℕ) : Type 0 where
+  pub is : place_of k ns ≡ i + place_of k (drop i ns)
+
+pub searched_none : (k : ℕ) (ns : List ℕ) → Searched k ns 0
+searched_none k ns = record { is = rw zero-add }
+
+module _ {k i : ℕ} {ns : List ℕ} (before : Searched k ns i) where
+  pub searched-more : i < length ns → stops k (get_or ns i 0) ≡ false → Searched k ns (i + 1)
+  unfolding place_of
+  searched-more b e = record { is = rw (before.is, drop-cons ns i 0 b, e, add-one, suc-add, add-suc) }
+
+  pub searched-found : i < length ns → stops k (get_or ns i 0) ≡ true → record { at = i; held = eqb (get_or ns i 0) k } ≡ place_in k ns
+  unfolding place_of held_at
+  searched-found b e =
+      let place : place_of k ns ≡ i = before.is ∙ rw (drop-cons ns i 0 b, e, add-zero) in
+      rw (place, lt-ltb i (length ns) b)
+
+  pub searched-all : {places : ℕ} → length ns ≡ places → i ≡ places → record { at = places; held = false } ≡ place_in k ns
+  unfolding place_of held_at
+  searched-all {places} e h =
+      let none : drop i ns ≡ [] = drop_of_length-le ns (omega arith) in
+      let place : place_of k ns ≡ places = before.is ∙ rw (none, h, add-zero) in
+      rw (place, le-ltb places (length ns) (omega arith))

@@ -30,12 +30,10 @@ pub fn load(numbers: &[u32], words: &[u64], owners: &[u8], places: usize, page: 
         owners: [0u8; 32],
     };
     let first = page * places;
-    let mut i = 0;
-    while i < places {
+    for i in 0..places {
         value.numbers[i] = numbers[first + i];
         value.words[i] = words[first + i];
         value.owners[i] = owners[first + i];
-        i += 1;
     }
     value
 }
@@ -44,16 +42,13 @@ pub fn search(numbers: &[u32; 32], places: usize, number: u32) -> Place
     requires { (places ≤ 32) × (length numbers.now ≡ 32) }
     ensures { result ≡ place_in number (take places numbers.now) }
 {
-    let mut i = 0;
-    while i < places {
-        let there = numbers[i];
+    for (i, &there) in numbers[..places].iter().enumerate() {
         if there == 0 || number <= there {
             return Place {
                 at: i,
                 held: there == number,
             };
         }
-        i += 1;
     }
     Place {
         at: places,

@@ -65,13 +65,11 @@ pub fn fetch(
     ensures waiting_after { waiting.new ≡ paste waiting.old at (map (named_item words.now newword) (drop at pool.old)) items }
     ensures poolowners_after { poolowners.new ≡ paste poolowners.old at (map (named_item owners.now newowner) (drop at pool.old)) items }
 {
-    let mut i = 0;
-    while i < items {
+    for i in 0..items {
         let source = pool[at + i];
         waiting[at + i] = word_named(words, source, newword);
         poolowners[at + i] = owner_named(owners, source, newowner);
         pool[at + i] = number_named(numbers, source, newnumber);
-        i += 1;
     }
 }
 
@@ -121,9 +119,9 @@ pub fn clear(pool: &mut [u32], waiting: &mut [u64], poolowners: &mut [u8])
     ensures waiting_after { waiting.new ≡ replicate (length waiting.old) 0 }
     ensures poolowners_after { poolowners.new ≡ replicate (length poolowners.old) 0 }
 {
-    buffers::fill_32(pool, 0);
-    buffers::fill_64(waiting, 0);
-    buffers::fill_8(poolowners, 0);
+    buffers::fill(pool, 0);
+    buffers::fill(waiting, 0);
+    buffers::fill(poolowners, 0);
 }
 
 // The same after a call that used little of the pool: blocks that hold zeros are read and not written. A shorter pool stays in the
@@ -137,7 +135,7 @@ pub fn clear_used(pool: &mut [u32], waiting: &mut [u64], poolowners: &mut [u8])
         clear(pool, waiting, poolowners);
         return;
     }
-    buffers::clear_32(pool);
-    buffers::clear_64(waiting);
-    buffers::clear_8(poolowners);
+    buffers::clear(pool);
+    buffers::clear(waiting);
+    buffers::clear(poolowners);
 }

@@ -8,12 +8,10 @@ pub fn stretch_end(separators: &[u8], top: u8, from: usize) -> usize
     ensures { result ≡ first_such (stored_top separators.now top) from (length separators.now - 1 - from) }
 {
     let last = separators.len() - 1;
-    let mut page = from;
-    while page < last {
+    for page in from..last {
         if separators[page] == top {
             return page;
         }
-        page += 1;
     }
-    page
+    last
 }

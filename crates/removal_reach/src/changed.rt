@@ -50,18 +50,16 @@ fn settle_changed(
     let places = parameters.places as usize;
     let mut from = 0;
     let mut stored = 0;
-    let mut v = 0;
-    while v < count {
+    for v in 0..count {
         let page = lo + v;
         let reach = ends[v] as usize;
         from = plan_page(parameters, pool, waiting, planned, from, reach, page);
         stored += page_plan::count_stars(numbers, page * places, (page + 1) * places, 0);
-        v += 1;
         if from + 1 == stored {
-            return v;
+            return v + 1;
         }
     }
-    v
+    count
 }
 
 // Plans the first pages of a stretch, whose homes the pool holds, over the stars of all its pages but `without`; the answer is how many.

@@ -84,7 +84,6 @@ module _ (p : Parameters) (r : GrowthRecord) (pool : Pool) (f₀ : File) (xs : L
 pub record Ongoing (p : Parameters) (r : GrowthRecord) (pool : Pool) (f₀ : File) (reports : List Report) (count i : ℕ) (f : File) (left : Pool) : Type 0 where
   pub long : length reports ≡ 256
   pub most : count ≤ 256
-  pub upto : i ≤ count
   pub ordered : Ordered p r pool f₀ (take count reports) i f
   pub sized : Sized p.places p.pages f
   pub pooled : Pooled p left.numbers left.words left.owners
@@ -97,12 +96,12 @@ module _ (p : Parameters) (r : GrowthRecord) (pool : Pool) (f₀ : File) (report
   length-is : length xs ≡ count
   length-is = length-take-le count reports (omega (arith, inv.most, inv.long))
 
-  pub ordered-all : count ≤ i → Files (filed_from p r f₀ pool xs) (record { filed = i; answer = On 0 0 }) f
+  pub ordered-all : count ≤ i → i ≤ count → Files (filed_from p r f₀ pool xs) (record { filed = count; answer = On 0 0 }) f
   unfolding Ordered filed_from placed
-  ordered-all h =
+  ordered-all h upto =
       files _ (further i (filed_from p r f pool [])) _ _
       (inv.ordered ∙ ap (λ (l : List Report). further i (filed_from p r f pool l)) (drop_of_length-le xs {i = i} (rw length-is h)))
-      (sym (add-zero i))
+      (omega arith)
       refl
       refl
 

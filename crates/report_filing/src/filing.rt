@@ -41,8 +41,7 @@ pub fn file_reports(
         (cleared (pool_before poolnumbers poolwords poolowners)) (take count reports)) result (after separators numbers words owners) }
 {
     let table = generator::first_multipliers(geometry.parameters.multiplier);
-    let mut filed = 0;
-    while filed < count {
+    for filed in 0..count {
         let report = reports[filed as usize];
         let answer = file_report(
             &table,
@@ -62,10 +61,9 @@ pub fn file_reports(
                 answer: Placed::Refused(refusal, place),
             };
         }
-        filed += 1;
     }
     Filed {
-        filed,
+        filed: count,
         answer: Placed::On(0, 0),
     }
 }

@@ -79,12 +79,10 @@ pub fn answer_block(session: Session, block: &[u8], out: &mut [u8]) -> Answered
 {
     let mut state = session;
     let mut at = 0;
-    let mut i = 0;
-    while i < block.len() {
-        let step = take_byte(state, block[i], out, at);
+    for byte in block {
+        let step = take_byte(state, *byte, out, at);
         state = step.session;
         at = step.at;
-        i += 1;
     }
     Answered { session: state, at }
 }

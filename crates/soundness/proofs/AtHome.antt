@@ -3,7 +3,6 @@ use mathlib.Core.Path.{◌≡◌, refl, sym, subst, ◌∙◌}
 use mathlib.Core.Bool.{true, ◌&&◌}
 use mathlib.Core.List.{List}
 use Prim.Native.Nat.{ℕ, zero, suc, ◌+◌, ◌-◌, ◌≤◌, ◌<◌}
-use native.Mathlib.Decide.{dec_lt}
 use native.Mathlib.Omega.{arith}
 use lib.Dec.{leb, ltb, eqb}
 use lib.ListN.{length, get_or, take, drop}
@@ -20,7 +19,7 @@ use Rattle.soundness.specs.Survey.{admits, admits_item, last_after, sound_in}
 use Rattle.soundness.specs.Stretch.{Items, HomesAt, Unused, sound_from}
 use Rattle.soundness.proofs.Probed.{none-probed, named-before-top}
 use Rattle.soundness.proofs.Items.{Admitting, admitting-all, empty-item, passed-item}
-use Rattle.soundness.proofs.Lent.{star-home, lent_none, lent-more}
+use Rattle.soundness.proofs.Lent.{star-home, lent-more}
 
 -- What the lists of a page and a file are when the separator is the greatest.
 pub record Topped (g : Geometry) (seps ns ws os hs : List ℕ) (at to places page : ℕ) : Type 0 where
@@ -44,9 +43,6 @@ module _ (ns ws os hs : List ℕ) (at to places page : ℕ) where
   stands g seps t k e =
       sym (named-before-top g.parameters g.growth seps k page (sym e) t.valid page t.inside (omega arith) (omega (arith, t.top)))
       ∙ none-probed g.parameters seps k page page refl (omega (arith, t.inside))
-
-  pub home-none : AtHome ns ws os hs at to places page 0 0
-  home-none g seps t h = rw t.all (lent_none g.parameters g.growth seps page ns ws os at _ hs t.items)
 
   module _ (i last : ℕ) (done : AtHome ns ws os hs at to places page i last) (inside : i < places) where
     pub home-next : (n : ℕ) → n ≡ get_or ns (at + i) 0 → last < n → get_or hs (to + i) 0 ≡ page → valid_word (get_or ws (at + i) 0) ≡ true
@@ -90,11 +86,3 @@ module _ (ns ws os hs : List ℕ) (at to places page : ℕ) where
 
     pub home-rest : (i last : ℕ) → AtHome ns ws os hs at to places page i last → i < places → last ≤ greatest → Unused ns ws os (at + i) (at + places) → sound_from g seps ns ws os at page ≡ true
     home-rest i last done e h empty = whole (rest g seps (places - i) i last (omega arith) (done g seps t h) empty)
-
--- one item more is empty
-pub unused_next : (ns ws os : List ℕ) (first i : ℕ) → Unused ns ws os first i → get_or ns i 0 ≡ 0 → eqb (get_or ws i 0) 0 && eqb (get_or os i 0) 0 ≡ true → Unused ns ws os first (i + 1)
-unused_next ns ws os first i done n e j f h = go (dec_lt j i)
-  where
-    go : Dec (j < i) → (get_or ns j 0 ≡ 0) × (eqb (get_or ws j 0) 0 && eqb (get_or os j 0) 0 ≡ true)
-    go (yes d) = done j f d
-    go (no d) = let same : j ≡ i = omega arith in rw same (n, e)

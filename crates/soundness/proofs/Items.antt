@@ -15,7 +15,6 @@ use Rattle.buffers.proofs.Lists.{map-item}
 use Rattle.hashing.specs.declared.Parameters.{Parameters}
 use Rattle.hashing.specs.declared.Growth.{Growth}
 use Rattle.generator.specs.Generator.{top_of_lem}
-use Rattle.hashing.specs.Home.{home}
 use Rattle.pages.specs.Position.{valid_word}
 use Rattle.pages.specs.Page.{part}
 use Rattle.pages.specs.Shape.{page_at}
@@ -46,28 +45,10 @@ found-led f ns hs stars places h empty e i l led = go (dec_lt i stars)
     go (yes d) = item-at f ns hs stars i h d e
     go (no d) = absurd (led stars (omega arith) (empty (omega arith)))
 
--- a star in order has no empty place before it
-pub first-led : (ns : List ℕ) (i last : ℕ) → ((j : ℕ) → j < i → get_or ns j 0 ≡ 0 → last ≡ greatest) → last < get_or ns i 0 → get_or ns i 0 ≤ greatest
-    → (j : ℕ) → j ≤ i → get_or ns j 0 ≡ 0 → ⊥
-first-led ns i last led high low j h empty = go (dec_lt j i)
-  where
-    go : Dec (j < i) → ⊥
-    go (yes d) = omega (arith, led j d empty, high, low)
-    go (no d) = let same : j ≡ i = omega arith in omega (arith, high, ap (λ (k : ℕ). get_or ns k 0) same, empty)
-
 pub in_order : (last n : ℕ) (valid : Bool) → ltb last n && (leb n greatest && valid) ≡ true → (last < n) × (n ≤ greatest)
 in_order last n valid e =
     let both = and-true (ltb last n) (leb n greatest && valid) e in
     (ltb-true last n both.0, leb-true n greatest (and-true (leb n greatest) valid both.1).0)
-
--- the stars of one item more are homed at `low` or above, if none is counted
-pub far-next : (number home : ℕ → ℕ) (low i far r : ℕ) → (far ≡ 0 → (j : ℕ) → j < i → (number j ≡ 0 → ⊥) → low ≤ home j)
-    → (r ≡ 0 → (number i ≡ 0 → ⊥) → low ≤ home i) → far + r ≡ 0 → (j : ℕ) → j < i + 1 → (number j ≡ 0 → ⊥) → low ≤ home j
-far-next number home low i far r done here e j h star = go (dec_lt j i)
-  where
-    go : Dec (j < i) → low ≤ home j
-    go (yes d) = done (omega arith) j d star
-    go (no d) = let same : j ≡ i = omega arith in rw same (here (omega arith) (λ z. star (rw same z)))
 
 module _ (p : Parameters) (g : Growth) (seps : List ℕ) (page : ℕ) where
   -- one item, then the others

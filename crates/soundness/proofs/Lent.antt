@@ -106,10 +106,6 @@ ahead b from page h =
     let e : from + (page - from) ≡ page = omega arith in
     sym (add-mul from (page - from) b) ∙ ap (λ (k : ℕ). k * b) e
 
-pub items-part : {ns ws os hs : List ℕ} (at to n k b : ℕ) → Items (at + n) (to + n) ns ws os hs → k + b ≤ n → Items (at + k + b) (to + k + b) ns ws os hs
-items-part at to n k b e h =
-    record { numbers = omega (arith, e.numbers); words = omega (arith, e.words); owners = omega (arith, e.owners); homes = omega (arith, e.homes) }
-
 pub homes-part : (g : Geometry) (ns hs : List ℕ) (at to n k b : ℕ) → HomesAt g n at to ns hs → k + b ≤ n → HomesAt g b (at + k) (to + k) ns hs
 homes-part g ns hs at to n k b are h i l =
     rw (add_assoc to k i, add_assoc at k i) (are (k + i) (omega arith))

@@ -1,6 +1,7 @@
 -- The stars among items: taken together, and their homes given back to the items.
 use mathlib.Core.Path.{◌≡◌, refl, sym, ap, ◌∙◌}
-use mathlib.Core.Bool.{Bool, true, false, cond}
+use mathlib.Core.Bool.{Bool, true, false, cond, not}
+use mir.Val.{bool_byte}
 use mathlib.Core.List.{List, [], ◌∷◌, ◌++◌, map, append-nil}
 use Prim.Native.Nat.{ℕ, zero, suc, ◌+◌, ◌*◌, ◌%◌, ◌≤◌, ◌<◌}
 use native.Mathlib.Nat.{add-zero, zero-add, add_assoc, mul-zero, mul-one, mod-eq_of_lt, le_refl}
@@ -20,6 +21,11 @@ item_of ns first items i h = sym (get_or-take items (drop first ns) i 0 h ∙ ge
 
 pub items_of : (ns : List ℕ) (first items : ℕ) → first + items ≤ length ns → length (take items (drop first ns)) ≡ items
 items_of ns first items h = length-take-le items (drop first ns) (omega (arith, length-drop first ns))
+
+-- whether a number is a star's, as a number
+pub star-byte : (n : ℕ) → bool_byte (not (eqb n 0)) ≡ one_if_star_lem n
+unfolding one_if_star_lem
+star-byte n = elim (eqb n 0) as (λ t. bool_byte (not t) ≡ cond t 0 1) [ true ↦ refl | false ↦ refl ]
 
 -- one number more
 stars-snoc : (xs : List ℕ) (n : ℕ) → star_numbers (xs ++ (n ∷ [])) ≡ star_numbers xs ++ cond (eqb n 0) [] (n ∷ [])
@@ -140,9 +146,6 @@ spreading_next {hs} {xs} {d} {to} {i} {homes} {taken} n one home s h r e f v =
       counted = rw (f, e, s.counted) (counted_next xs i h);
       are = spread-next hs xs d homes to i taken (home * one) h r s.counted s.are (rw (v, f, e));
     }
-
-pub spreading_all : {hs xs d : List ℕ} {to i : ℕ} {homes : List ℕ} {taken : ℕ} (items : ℕ) → Spreading hs xs d to i homes taken → i ≡ items → homes ≡ paste d to (spread_from hs 0 xs) items
-spreading_all items s e = rw (← e) s.are
 
 -- where hs has the homes of the stars, each item gets its own
 spread-homes : (f : ℕ → ℕ) (hs : List ℕ) (k : ℕ) (xs : List ℕ) → k + length (star_numbers xs) ≤ 32

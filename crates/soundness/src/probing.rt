@@ -24,7 +24,7 @@ pub fn named_from(
 {
     let parameters = geometry.parameters;
     let from = home as usize;
-    let end = near_end(from, separators.len());
+    let end = (from + 44).min(separators.len());
     let page = probe(table, parameters, separators, number, from, from, end);
     if page < end {
         return page;
@@ -33,17 +33,6 @@ pub fn named_from(
         return page;
     }
     probe_beyond(parameters, separators, number, from, end)
-}
-
-// Where the first 44 pages from home end, `pages` if it comes first.
-fn near_end(home: usize, pages: usize) -> usize
-    requires { (home ≤ pages) × (pages ≤ 1024) }
-    ensures { (home ≤ result) × ((result ≤ pages) × (result ≤ home + 44)) }
-{
-    if home + 44 < pages {
-        return home + 44;
-    }
-    pages
 }
 
 // Probes the pages from `start` on, none before it having been the one, by the whole table. Each table has a function of its own: inlined here,
@@ -61,48 +50,24 @@ fn probe_beyond(
     ensures { result ≡ first (hash_from parameters home) 0 (take (length separators.now) separators.now) number }
 {
     if parameters.multiplier == 48271 {
-        return probe_by_48271(parameters, separators, number, home, start);
+        return probe_by::<48271>(parameters, separators, number, home, start);
     }
-    probe_by_16807(parameters, separators, number, home, start)
+    probe_by::<16807>(parameters, separators, number, home, start)
 }
 
-fn probe_by_48271(
+fn probe_by<const MULTIPLIER: u32>(
     parameters: Parameters,
     separators: &[u8],
     number: u32,
     home: usize,
     start: usize,
 ) -> usize
-    requires parameters_value { (valid_parameters parameters ≡ true) × (parameters.multiplier ≡ 48271) }
+    requires parameters_value { (valid_parameters parameters ≡ true) × (parameters.multiplier ≡ MULTIPLIER) }
     requires home_le_start { (home ≤ start) × ((start ≤ length separators.now) × (length separators.now ≤ 1024)) }
     requires number_value { first (hash_from parameters home) 0 (take start separators.now) number ≡ start }
     ensures { result ≡ first (hash_from parameters home) 0 (take (length separators.now) separators.now) number }
 {
-    let table = generator::multipliers(48271);
-    probe(
-        &table,
-        parameters,
-        separators,
-        number,
-        home,
-        start,
-        separators.len(),
-    )
-}
-
-fn probe_by_16807(
-    parameters: Parameters,
-    separators: &[u8],
-    number: u32,
-    home: usize,
-    start: usize,
-) -> usize
-    requires parameters_value { (valid_parameters parameters ≡ true) × (parameters.multiplier ≡ 16807) }
-    requires home_le_start { (home ≤ start) × ((start ≤ length separators.now) × (length separators.now ≤ 1024)) }
-    requires number_value { first (hash_from parameters home) 0 (take start separators.now) number ≡ start }
-    ensures { result ≡ first (hash_from parameters home) 0 (take (length separators.now) separators.now) number }
-{
-    let table = generator::multipliers(16807);
+    let table = generator::multipliers(MULTIPLIER);
     probe(
         &table,
         parameters,
@@ -131,16 +96,14 @@ fn probe(
     requires number_value { first (hash_from parameters home) 0 (take start separators.now) number ≡ start }
     ensures { result ≡ first (hash_from parameters home) 0 (take stop separators.now) number }
 {
-    let mut page = start;
-    while page < stop {
+    for page in start..stop {
         let factor = table[2 * (page - home + 1)];
         let signature = generator::signature_by(factor, parameters.bits, number);
         if signature < separators[page] as u32 {
             return page;
         }
-        page += 1;
     }
-    page
+    stop
 }
 
 // Whether the number, from its home, stays on no page below this one.

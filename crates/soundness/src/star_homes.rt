@@ -1,9 +1,9 @@
 // The homes of the stars of a part of the items, 32 stars at a time, whichever pages they stand on.
-ghost use Rattle.std.specs.Prelude.{◌≡◌, ◌+◌, ◌≤◌, ◌<◌, length, take, drop};
+ghost use Rattle.std.specs.Prelude.{◌≡◌, ◌+◌, ◌≤◌, length, take, drop};
 ghost use Rattle.std.proofs.Math.Seq.{paste};
 ghost use Rattle.placement.specs.Shape.{homes_of};
 ghost use Rattle.placement.specs.Ready.{Homing};
-ghost use Rattle.soundness.specs.Stars.{one_if_star_lem, spread_from, Gathered};
+ghost use Rattle.soundness.specs.Stars.{spread_from, Gathered};
 
 use hashing::Geometry;
 
@@ -14,16 +14,6 @@ pub struct Taken {
     pub items: usize,
 }
 
-// 1 for a star's number, 0 for an empty place.
-fn one_if_star(number: u32) -> usize
-    ensures { (result ≡ one_if_star_lem number) × (result ≤ 1) }
-{
-    if number == 0 {
-        return 0;
-    }
-    1
-}
-
 // Takes the numbers of the stars of `items` items from `first` on, at most 32. Each item is written, and counted if it is a star:
 // no branch depends on it.
 fn gather(numbers: &[u32], first: usize, items: usize, block: &mut [u32; 32]) -> Taken
@@ -32,23 +22,15 @@ fn gather(numbers: &[u32], first: usize, items: usize, block: &mut [u32; 32]) ->
     ensures { Gathered (drop first numbers.now) items block.new result }
 {
     let mut stars: usize = 0;
-    let mut i = 0;
-    while i < items {
+    for i in 0..items {
         if stars == 32 {
             return Taken { stars, items: i };
         }
         let number = numbers[first + i];
         block[stars] = number;
-        stars += one_if_star(number);
-        i += 1;
+        stars += usize::from(number != 0);
     }
-    Taken { stars, items: i }
-}
-
-pub fn wide(home: u16) -> u32
-    ensures { (result ≡ home) × (result < 65536) }
-{
-    home as u32
+    Taken { stars, items }
 }
 
 // Puts the homes found for the stars of `items` items at these items, 0 at empty places. What is read behind the last star is of
@@ -66,12 +48,10 @@ fn spread(
         ≡ paste homes.old to (spread_from found.now 0 (take items (drop first numbers.now))) items }
 {
     let mut taken: usize = 0;
-    let mut i = 0;
-    while i < items {
-        let star = one_if_star(numbers[first + i]);
-        homes[to + i] = wide(found[taken % 32]) * star as u32;
+    for i in 0..items {
+        let star = usize::from(numbers[first + i] != 0);
+        homes[to + i] = u32::from(found[taken % 32]) * star as u32;
         taken += star;
-        i += 1;
     }
 }
 

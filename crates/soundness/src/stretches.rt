@@ -39,8 +39,7 @@ fn lent_sound(
     }
     let places = geometry.parameters.places as usize;
     let mut last: u32 = 0;
-    let mut i = 0;
-    while i < places {
+    for i in 0..places {
         let item = admitted(
             table,
             geometry,
@@ -56,12 +55,12 @@ fn lent_sound(
             return false;
         }
         last = item.last;
-        i += 1;
     }
     true
 }
 
 // How many stars of a page are 44 pages or more above their home, so that the first ninety multipliers do not sign them on it.
+// Stays: apart from the one for a loaded page, whose homes are 16 bits wide; a test of these widened was slower.
 fn count_far(
     numbers: &[u32],
     homes: &[u32],
@@ -79,25 +78,10 @@ fn count_far(
     }
     let low = (page - 43) as u32;
     let mut far: u32 = 0;
-    let mut i = 0;
-    while i < places {
-        far += homed_below(numbers[at + i], homes[to + i], low);
-        i += 1;
+    for i in 0..places {
+        far += u32::from((numbers[at + i] != 0) & (homes[to + i] < low));
     }
     far
-}
-
-// 1 for a star homed below page `low`, else 0.
-fn homed_below(number: u32, home: u32, low: u32) -> u32
-    ensures { (result ≤ 1) × (result ≡ 0 → (number ≡ 0 → ⊥) → low ≤ home) }
-{
-    if number == 0 {
-        return 0;
-    }
-    if low <= home {
-        return 0;
-    }
-    1
 }
 
 // Whether the items from `first` up to the one before `last` are empty places that hold nothing.
@@ -105,15 +89,13 @@ fn all_unused(numbers: &[u32], words: &[u64], owners: &[u8], first: usize, last:
     requires { (last ≤ length numbers.now) × ((last ≤ length words.now) × (last ≤ length owners.now)) }
     ensures { result ≡ true → Unused numbers.now words.now owners.now first last }
 {
-    let mut i = first;
-    while i < last {
+    for i in first..last {
         if numbers[i] != 0 {
             return false;
         }
         if !unused(words[i], owners[i]) {
             return false;
         }
-        i += 1;
     }
     true
 }
@@ -143,8 +125,7 @@ fn sound_at_home(
     let places = geometry.parameters.places as usize;
     let own = page as u32;
     let mut last: u32 = 0;
-    let mut i = 0;
-    while i < places {
+    for i in 0..places {
         let number = numbers[at + i];
         if number == 0 {
             if LAST_NUMBER < last {
@@ -162,7 +143,6 @@ fn sound_at_home(
             return false;
         }
         last = number;
-        i += 1;
     }
     last <= LAST_NUMBER
 }
@@ -188,8 +168,7 @@ fn first_unsound(
     ensures { Lowest (sound_of geometry separators.now numbers.now words.now owners.now at from) from stop result }
 {
     let places = geometry.parameters.places as usize;
-    let mut page = from;
-    while page < stop {
+    for page in from..stop {
         let items = (page - from) * places;
         if !lent_sound(
             table,
@@ -205,9 +184,8 @@ fn first_unsound(
         ) {
             return page;
         }
-        page += 1;
     }
-    page
+    stop
 }
 
 // The same where stars are far from home: the whole table is copied once, and lent. Each has a function of its own, as in `probe_beyond`.
@@ -228,16 +206,16 @@ fn first_unsound_beyond(
     ensures { Lowest (sound_of geometry separators.now numbers.now words.now owners.now at from) from stop result }
 {
     if geometry.parameters.multiplier == 48271 {
-        return first_unsound_by_48271(
+        return first_unsound_by::<48271>(
             geometry, separators, numbers, words, owners, homes, at, to, from, stop,
         );
     }
-    first_unsound_by_16807(
+    first_unsound_by::<16807>(
         geometry, separators, numbers, words, owners, homes, at, to, from, stop,
     )
 }
 
-fn first_unsound_by_48271(
+fn first_unsound_by<const MULTIPLIER: u32>(
     geometry: Geometry,
     separators: &[u8],
     numbers: &[u32],
@@ -249,33 +227,11 @@ fn first_unsound_by_48271(
     from: usize,
     stop: usize,
 ) -> usize
-    requires parameters_value { (valid_parameters geometry.parameters ≡ true) × (geometry.parameters.multiplier ≡ 48271) }
+    requires parameters_value { (valid_parameters geometry.parameters ≡ true) × (geometry.parameters.multiplier ≡ MULTIPLIER) }
     requires homed_items { HomedItems geometry at to from stop separators.now numbers.now words.now owners.now homes.now }
     ensures { Lowest (sound_of geometry separators.now numbers.now words.now owners.now at from) from stop result }
 {
-    let table = generator::multipliers(48271);
-    first_unsound(
-        &table, geometry, separators, numbers, words, owners, homes, at, to, from, stop,
-    )
-}
-
-fn first_unsound_by_16807(
-    geometry: Geometry,
-    separators: &[u8],
-    numbers: &[u32],
-    words: &[u64],
-    owners: &[u8],
-    homes: &[u32],
-    at: usize,
-    to: usize,
-    from: usize,
-    stop: usize,
-) -> usize
-    requires parameters_value { (valid_parameters geometry.parameters ≡ true) × (geometry.parameters.multiplier ≡ 16807) }
-    requires homed_items { HomedItems geometry at to from stop separators.now numbers.now words.now owners.now homes.now }
-    ensures { Lowest (sound_of geometry separators.now numbers.now words.now owners.now at from) from stop result }
-{
-    let table = generator::multipliers(16807);
+    let table = generator::multipliers(MULTIPLIER);
     first_unsound(
         &table, geometry, separators, numbers, words, owners, homes, at, to, from, stop,
     )
@@ -301,8 +257,7 @@ fn first_unsound_near(
     ensures { Lowest (sound_at geometry.parameters geometry.growth (held separators.now numbers.now words.now owners.now)) from stop result }
 {
     let places = geometry.parameters.places as usize;
-    let mut page = from;
-    while page < stop {
+    for page in from..stop {
         let at = page * places;
         let kept = to + (page - from) * places;
         if !sound_at_home(
@@ -319,9 +274,8 @@ fn first_unsound_near(
                 return page;
             }
         }
-        page += 1;
     }
-    page
+    stop
 }
 
 // The first unsound page from `from` up to the one before `stop`, or `stop`. The homes of these pages' items then stand in `homes`

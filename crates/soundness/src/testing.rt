@@ -9,7 +9,6 @@ ghost use Rattle.placement.specs.Ready.{Signers, Homing};
 ghost use Rattle.soundness.specs.Survey.{TestedItem, SignableOn, Testable, Tested};
 
 use crate::probing::stands_on;
-use crate::star_homes::wide;
 use hashing::Geometry;
 use placement::top_of;
 
@@ -63,12 +62,10 @@ fn occupied_places(numbers: &[u32; 32], places: usize) -> usize
     requires { places ≤ 32 }
     ensures { (result ≤ places) × (result < places → get_or numbers.now result 0 ≡ 0) }
 {
-    let mut i = 0;
-    while i < places {
+    for i in (0..places).step_by(8) {
         if numbers[i] == 0 {
             return i;
         }
-        i += 8;
     }
     places
 }
@@ -83,25 +80,10 @@ fn count_far(numbers: &[u32; 32], found: &[u16; 32], page: usize) -> u32
     }
     let low = (page - 43) as u16;
     let mut far: u32 = 0;
-    let mut i = 0;
-    while i < 32 {
-        far += homed_below(numbers[i], found[i], low);
-        i += 1;
+    for i in 0..32 {
+        far += u32::from((numbers[i] != 0) & (found[i] < low));
     }
     far
-}
-
-// 1 for a star homed below page `low`, else 0.
-fn homed_below(number: u32, home: u16, low: u16) -> u32
-    ensures { (result ≤ 1) × (result ≡ 0 → (number ≡ 0 → ⊥) → low ≤ home) }
-{
-    if number == 0 {
-        return 0;
-    }
-    if low <= home {
-        return 0;
-    }
-    1
 }
 
 // The items of a page, by a table that signs its stars on it.
@@ -123,8 +105,7 @@ fn items_sound<'a>(
 {
     let places = geometry.parameters.places as usize;
     let mut last: u32 = 0;
-    let mut i = 0;
-    while i < places {
+    for i in 0..places {
         let item = admitted(
             table,
             geometry,
@@ -134,14 +115,13 @@ fn items_sound<'a>(
             numbers[i],
             words[i],
             owners[i],
-            wide(found[i]),
+            u32::from(found[i]),
         );
         if !item.sound {
             return false;
         }
         homes[i] = item.home;
         last = item.last;
-        i += 1;
     }
     true
 }
@@ -162,16 +142,16 @@ fn items_beyond<'a>(
     ensures { Tested geometry separators.now page numbers.now words.now owners.now homes.new result }
 {
     if geometry.parameters.multiplier == 48271 {
-        return items_by_48271(
+        return items_by::<48271>(
             geometry, separators, numbers, words, owners, found, page, homes,
         );
     }
-    items_by_16807(
+    items_by::<16807>(
         geometry, separators, numbers, words, owners, found, page, homes,
     )
 }
 
-fn items_by_48271<'a>(
+fn items_by<'a, const MULTIPLIER: u32>(
     geometry: Geometry,
     separators: &[u8],
     numbers: &'a [u32; 32],
@@ -181,31 +161,11 @@ fn items_by_48271<'a>(
     page: usize,
     homes: &mut [u32; 32],
 ) -> bool
-    requires parameters_value { (valid_parameters geometry.parameters ≡ true) × (geometry.parameters.multiplier ≡ 48271) }
+    requires parameters_value { (valid_parameters geometry.parameters ≡ true) × (geometry.parameters.multiplier ≡ MULTIPLIER) }
     requires testable { Testable geometry separators.now page numbers.now words.now owners.now found.now homes.old }
     ensures { Tested geometry separators.now page numbers.now words.now owners.now homes.new result }
 {
-    let table = generator::multipliers(48271);
-    items_sound(
-        &table, geometry, separators, numbers, words, owners, found, page, homes,
-    )
-}
-
-fn items_by_16807<'a>(
-    geometry: Geometry,
-    separators: &[u8],
-    numbers: &'a [u32; 32],
-    words: &'a [u64; 32],
-    owners: &'a [u8; 32],
-    found: &[u16; 32],
-    page: usize,
-    homes: &mut [u32; 32],
-) -> bool
-    requires parameters_value { (valid_parameters geometry.parameters ≡ true) × (geometry.parameters.multiplier ≡ 16807) }
-    requires testable { Testable geometry separators.now page numbers.now words.now owners.now found.now homes.old }
-    ensures { Tested geometry separators.now page numbers.now words.now owners.now homes.new result }
-{
-    let table = generator::multipliers(16807);
+    let table = generator::multipliers(MULTIPLIER);
     items_sound(
         &table, geometry, separators, numbers, words, owners, found, page, homes,
     )
@@ -254,20 +214,11 @@ pub fn admitted(
 pub fn unused(word: u64, owner: u8) -> bool
     ensures { result ≡ (eqb word 0 && eqb owner 0) }
 {
-    if word != 0 {
-        return false;
-    }
-    owner == 0
+    word == 0 && owner == 0
 }
 
 fn ordered(last: u32, number: u32, word: u64) -> bool
     ensures { result ≡ (ltb last number && (leb number greatest && valid_word word)) }
 {
-    if number <= last {
-        return false;
-    }
-    if LAST_NUMBER < number {
-        return false;
-    }
-    pages::position::word_valid(word)
+    last < number && number <= LAST_NUMBER && pages::position::word_valid(word)
 }

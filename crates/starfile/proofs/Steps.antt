@@ -21,8 +21,7 @@ use Rattle.page_plan.specs.declared.outcome.Outcome.{Outcome}
 use Rattle.page_plan.specs.declared.outcome.Outcome.TheVariants.{On as outcome·On, Unsound, Overflows}
 use Rattle.growth_plan.specs.Growth.{growth_answer, growth_file}
 use Rattle.growth_plan.specs.Step.{page_stepped}
-use Rattle.calls.specs.declared.answers.Admission.{Admission}
-use Rattle.calls.specs.declared.answers.Admission.TheVariants.{Passed, Refused as TurnedAway}
+use Rattle.std.specs.Prelude.{Result, Ok, Err}
 use Rattle.calls.specs.declared.answers.Answer.{Answer}
 use Rattle.calls.specs.declared.answers.Grown.{Grown}
 use Rattle.calls.specs.declared.answers.Placed.{Placed}
@@ -230,14 +229,14 @@ module _ (p : Parameters) (r : GrowthRecord) (f second : File) (pool : Pool) whe
   unfolding step_refusal record_refusal
   refusal_is = refl
 
-  pub step-turned : (after : AfterStep) {a : Admission} {fits : Bool} {x : Refusal} → admission_number a ≡ record_refusal p r fits → fits ≡ lengths → a ≡ TurnedAway x
+  pub step-turned : (after : AfterStep) {a : Result (Unit {0}) Refusal} {fits : Bool} {x : Refusal} → admission_number a ≡ record_refusal p r fits → fits ≡ lengths → a ≡ Err x
       → LeavesStep (guarded_step r second pool (step_refusal p r f second pool) after) (record { answer = Refused x 0; growth = r }) second pool
   step-turned after {x = x} e l t =
       numbered-early r second pool after x (step_refusal p r f second pool)
       (sym (ap admission_number t) ∙ (e ∙ (ap (record_refusal p r) l ∙ sym refusal_is)))
       (rw refusal_is (refusal-most p r lengths))
 
-  pub step-passed : {a : Admission} {fits : Bool} → admission_number a ≡ record_refusal p r fits → fits ≡ lengths → a ≡ Passed → step_refusal p r f second pool ≡ 0
+  pub step-passed : {a : Result (Unit {0}) Refusal} {fits : Bool} → admission_number a ≡ record_refusal p r fits → fits ≡ lengths → a ≡ Ok tt → step_refusal p r f second pool ≡ 0
   step-passed e l t = refusal_is ∙ (sym (ap (record_refusal p r) l) ∙ (sym e ∙ ap admission_number t))
 
   pub step-lent : step_refusal p r f second pool ≡ 0 → Admitted p r.state f × (Sized p.places p.pages second × (Pooled p pool.numbers pool.words pool.owners × (valid_steps p r ≡ true)))

@@ -12,7 +12,7 @@ ghost use Rattle.calls.specs.Lent.{pool_before, pool_after_lem};
 use crate::opening::both_fit;
 use crate::whole::{accepted, write_page};
 use call_guard::{admit, at_rest_after};
-use calls::answers::{Admission, Grown, Placed, Refusal};
+use calls::answers::{Grown, Placed, Refusal};
 use calls::records::{GrowthRecord, Recorded};
 use hashing::Parameters;
 
@@ -50,7 +50,7 @@ pub fn step_growth(
         poolwords.len(),
         poolowners.len(),
     );
-    if let Admission::Refused(refusal) = admit(parameters, growth, fits) {
+    if let Err(refusal) = admit(parameters, growth, fits) {
         return Recorded {
             answer: Placed::Refused(refusal, 0),
             growth,

@@ -11,7 +11,7 @@ ghost use Rattle.calls.specs.Lent.{pool_before, pool_after_lem};
 
 use crate::whole::{accepted, plan_whole};
 use call_guard::{admit, all_fit, file_fits};
-use calls::answers::{Admission, Placed, Refusal};
+use calls::answers::{Placed, Refusal};
 use calls::records::{GrowthRecord, Recorded};
 use hashing::Parameters;
 
@@ -49,7 +49,7 @@ pub fn open_growth(
         poolwords.len(),
         poolowners.len(),
     );
-    if let Admission::Refused(refusal) = admit(parameters, growth, fits) {
+    if let Err(refusal) = admit(parameters, growth, fits) {
         return Recorded {
             answer: Placed::Refused(refusal, 0),
             growth,

@@ -2,7 +2,8 @@
 
 #![tactic(auto)]
 
-ghost use Rattle.std.specs.Prelude.{◌≡◌, ◌≤◌, ◌++◌, false, length, take, IfOk, OnOk, IfSome};
+ghost use Rattle.std.specs.Prelude.{◌≡◌, ◌≤◌, ◌++◌, length, take, IfOk, OnOk, IfSome};
+ghost use Rattle.std.specs.Option.{unwrap_or};
 ghost use Rattle.std.specs.Io.KnownBytes.{Appends, IsAtEnd};
 ghost use Rattle.lines.specs.Programs.{runs, text_for};
 ghost use Rattle.lines.specs.Streams.{Serves};
@@ -47,10 +48,8 @@ fn list_table<R: Read, W: Write>(first: &[u8], reader: &mut R, writer: &mut W) -
 fn list_all<W: Write>(given: &[u8], writer: &mut W) -> io::Result<()>
     ensures { OnOk result (Appends (W.contents writer.old) (W.contents writer.new) (listed given.now)) }
 {
-    let mut part = 0;
-    while part < 4 {
+    for part in 0..4 {
         list_part(given, part, writer)?;
-        part += 1;
     }
     Ok(())
 }
@@ -66,6 +65,7 @@ fn list_part<W: Write>(given: &[u8], part: usize, writer: &mut W) -> io::Result<
 }
 
 // Room for the longest table and more, or for a part of its lines. Of the three only the length is told, which lending them needs.
+// Stays: with one generic function of item and length, each of the five callers would write both.
 fn table_space() -> [u8; 400384]
     ensures { 400384 ≡ length result }
 {
@@ -84,7 +84,7 @@ fn word_space() -> [u64; 32768]
     [0u64; 32768]
 }
 
-// A proved loop has to end, and nothing says that the input does: the turns count down from a number that no run uses up.
+// A proved loop has to end, and nothing says that the input does: there are more turns than any run uses up.
 fn keep_all<R: Read>(given: &mut [u8], begun: usize, reader: &mut R) -> io::Result<usize>
     requires { (begun ≤ 400321) × (400321 ≤ length given.old) }
     ensures in_bounds { IfOk result (λ n. n ≤ 400321) }
@@ -92,14 +92,12 @@ fn keep_all<R: Read>(given: &mut [u8], begun: usize, reader: &mut R) -> io::Resu
         (λ rest. take n given.new ≡ kept_table (take begun given.old ++ rest))) }
 {
     let mut kept = begun;
-    let mut turns = u64::MAX;
-    while turns > 0 {
+    for _ in 0..u64::MAX {
         let next = keep_some(given, kept, reader)?;
         if next == kept {
             return Ok(kept);
         }
         kept = next;
-        turns -= 1;
     }
     Err(io::Error::other("the input does not end"))
 }
@@ -156,12 +154,6 @@ fn collect<W: Write>(
     Ok(collected.collection)
 }
 
-#[derive(Clone, Copy)]
-struct Turn {
-    collection: Collection,
-    more: bool,
-}
-
 fn collect_all<R: Read, W: Write>(
     collection: Collection,
     numbers: &mut [u32],
@@ -179,20 +171,16 @@ fn collect_all<R: Read, W: Write>(
     ensures end { OnOk result (IsAtEnd (R.remaining reader.new)) }
 {
     let mut state = collection;
-    let mut turns = u64::MAX;
-    while turns > 0 {
-        let turn = collect_some(state, numbers, words, out, reader, writer)?;
-        state = turn.collection;
-        let more = turn.more;
-        if !more {
+    for _ in 0..u64::MAX {
+        let Some(next) = collect_some(state, numbers, words, out, reader, writer)? else {
             return Ok(state);
-        }
-        turns -= 1;
+        };
+        state = next;
     }
     Err(io::Error::other("the input does not end"))
 }
 
-// Reads once, and collects what came.
+// Reads once, and collects what came; nothing has come where the input has ended.
 fn collect_some<R: Read, W: Write>(
     collection: Collection,
     numbers: &mut [u32],
@@ -200,26 +188,20 @@ fn collect_some<R: Read, W: Write>(
     out: &mut [u8],
     reader: &mut R,
     writer: &mut W,
-) -> io::Result<Turn>
+) -> io::Result<Option<Collection>>
     requires fit { Fit collection numbers.old words.old }
     requires in_bounds { 400320 ≤ length out.old }
-    ensures fit_2 { IfOk result (λ t. Fit t.collection numbers.new words.new) }
+    ensures fit_2 { IfOk result (λ t. Fit (unwrap_or t collection) numbers.new words.new) }
     ensures serves { IfOk result (λ t. Serves cataloguing
-        (run_held collection numbers.old words.old) (run_held t.collection numbers.new words.new)
+        (run_held collection numbers.old words.old) (run_held (unwrap_or t collection) numbers.new words.new)
         (R.remaining reader.old) (R.remaining reader.new) (W.contents writer.old) (W.contents writer.new)) }
-    ensures end { IfOk result (λ t. t.more ≡ false → IsAtEnd (R.remaining reader.new)) }
+    ensures end { IfOk result (λ t. t ≡ None → IsAtEnd (R.remaining reader.new)) }
 {
     let mut block = [0u8; 4096];
     let n = reader.read(&mut block)?;
     if n == 0 {
-        return Ok(Turn {
-            collection,
-            more: false,
-        });
+        return Ok(None);
     }
     let after = collect(collection, &block[..n], numbers, words, out, writer)?;
-    Ok(Turn {
-        collection: after,
-        more: true,
-    })
+    Ok(Some(after))
 }

@@ -2,7 +2,7 @@
 
 #![tactic(auto)]
 
-ghost use Rattle.std.specs.Prelude.{◌≡◌, false, map, IfOk, OnOk, IfSome};
+ghost use Rattle.std.specs.Prelude.{◌≡◌, map, IfOk, OnOk, IfSome, unwrap_or};
 ghost use Rattle.std.specs.Io.KnownBytes.{Appends, IsAtEnd};
 ghost use Rattle.lines.specs.Grammar.{command_of, lines_of};
 ghost use Rattle.lines.specs.Programs.{put_out};
@@ -12,12 +12,6 @@ ghost use Rattle.sessions.specs.Commands.{answering, new_file, run_in};
 use sessions::Session;
 use std::io;
 use std::io::{Read, Write};
-
-#[derive(Clone, Copy)]
-struct Turn {
-    session: Session,
-    more: bool,
-}
 
 fn main(rt: HostRuntime) -> io::Result<()> {
     answer_all(&mut rt.stdin(), &mut rt.stdout())
@@ -36,7 +30,7 @@ fn answer_all<R: Read, W: Write>(reader: &mut R, writer: &mut W) -> io::Result<(
     Ok(())
 }
 
-// A proved loop has to end, and nothing says that the input does: the turns count down from a number that no run uses up.
+// A proved loop has to end, and nothing says that the input does: it has more turns than any run uses up.
 fn read_all<R: Read, W: Write>(
     session: Session,
     reader: &mut R,
@@ -47,44 +41,34 @@ fn read_all<R: Read, W: Write>(
     ensures end { OnOk result (IsAtEnd (R.remaining reader.new)) }
 {
     let mut state = session;
-    let mut turns = u64::MAX;
-    while turns > 0 {
+    for _ in 0..u64::MAX {
         let turn = read_some(state, reader, writer)?;
-        state = turn.session;
-        let more = turn.more;
-        if !more {
+        let Some(next) = turn else {
             return Ok(state);
-        }
-        turns -= 1;
+        };
+        state = next;
     }
     Err(io::Error::other("the input does not end"))
 }
 
-// Reads once, and answers what came.
+// Reads once, and answers what came; at the end of the input nothing came.
 fn read_some<R: Read, W: Write>(
     session: Session,
     reader: &mut R,
     writer: &mut W,
-) -> io::Result<Turn>
-    ensures serves { IfOk result (λ t. Serves answering (run_in session) (run_in t.session)
+) -> io::Result<Option<Session>>
+    ensures serves { IfOk result (λ next. Serves answering (run_in session) (run_in (unwrap_or next session))
         (R.remaining reader.old) (R.remaining reader.new) (W.contents writer.old) (W.contents writer.new)) }
-    ensures end { IfOk result (λ t. t.more ≡ false → IsAtEnd (R.remaining reader.new)) }
+    ensures end { IfOk result (λ next. next ≡ None → IsAtEnd (R.remaining reader.new)) }
 {
     let mut block = [0u8; 512];
     let mut out = [0u8; 19008];
     let n = reader.read(&mut block)?;
     if n == 0 {
-        return Ok(Turn {
-            session,
-            more: false,
-        });
+        return Ok(None);
     }
     let answered = sessions::answer_block(session, &block[..n], &mut out);
     let at = answered.at;
     writer.write_all(&out[..at])?;
-    let after = answered.session;
-    Ok(Turn {
-        session: after,
-        more: true,
-    })
+    Ok(Some(answered.session))
 }

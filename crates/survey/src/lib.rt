@@ -2,7 +2,7 @@
 
 #![tactic(auto)]
 
-ghost use Rattle.std.specs.Prelude.{◌≡◌, ◌-◌, ◌*◌, ◌≤◌, ◌<◌};
+ghost use Rattle.std.specs.Prelude.{◌≡◌, ◌-◌, ◌*◌, ◌≤◌};
 ghost use Rattle.placement.specs.Hash.{sound_at};
 ghost use Rattle.placement.specs.Lent.{held};
 ghost use Rattle.placement.specs.Ready.{Ready};
@@ -33,17 +33,6 @@ fn first_unsound(
     )
 }
 
-// Where a stretch of `most` pages from `page` on ends, `pages` if it comes first.
-fn stretch_end(page: usize, most: usize, pages: usize) -> usize
-    requires { (page < pages) × (1 ≤ most) }
-    ensures { (page < result) × ((result ≤ pages) × (result - page ≤ most)) }
-{
-    if most < pages - page {
-        return page + most;
-    }
-    pages
-}
-
 // The lowest unsound page, or the number of pages.
 pub fn lowest_unsound(
     table: &[u32; 90],
@@ -60,7 +49,7 @@ pub fn lowest_unsound(
     let most = 1024 / geometry.parameters.places as usize;
     let mut page = 0;
     while page < pages {
-        let stop = stretch_end(page, most, pages);
+        let stop = page + most.min(pages - page);
         let unsound = first_unsound(
             table, geometry, separators, numbers, words, owners, page, stop,
         );

@@ -8,7 +8,7 @@ ghost use Rattle.tray.specs.Lent.{tray_of, AddsReport};
 ghost use Rattle.tray.specs.Shape.{turned};
 ghost use Rattle.tray.specs.Refusals.{tray_lengths, report_refusal};
 
-use calls::answers::{Admission, Placed, Refusal};
+use calls::answers::{Placed, Refusal};
 use calls::records::GrowthRecord;
 use hashing::Parameters;
 use pages::position::Position;
@@ -59,7 +59,7 @@ fn decide(
         result.added (set reports result.at result.report) filter.new }
 {
     let fits = tray_fits(places, count, filter.len());
-    if let Admission::Refused(refusal) = admit(parameters, growth, fits, count, report) {
+    if let Err(refusal) = admit(parameters, growth, fits, count, report) {
         return turn_away(refusal, count, places, report);
     }
     tray_filter::mark(parameters.multiplier, filter, report.number);
@@ -83,22 +83,20 @@ fn admit(
     fits: bool,
     count: u32,
     report: Report,
-) -> Admission
+) -> Result<(), Refusal>
     ensures { admission_number result ≡ report_refusal parameters growth fits count report }
 {
-    if let Admission::Refused(refusal) = call_guard::admit(parameters, growth, fits) {
-        return Admission::Refused(refusal);
-    }
+    call_guard::admit(parameters, growth, fits)?;
     if !pages::position::number_valid(report.number) {
-        return Admission::Refused(Refusal::BadNumber);
+        return Err(Refusal::BadNumber);
     }
     if !placed_well(report) {
-        return Admission::Refused(Refusal::BadPosition);
+        return Err(Refusal::BadPosition);
     }
     if 256 <= count {
-        return Admission::Refused(Refusal::TrayFull);
+        return Err(Refusal::TrayFull);
     }
-    Admission::Passed
+    Ok(())
 }
 
 // Not "A wrong list or filter length or a count above 256".

@@ -16,7 +16,7 @@ ghost use Rattle.tray.specs.Shape.{limit_of, not_closed, FiledBelow};
 
 use crate::adding::tray_fits;
 use crate::seeking::all_fit;
-use calls::answers::{Admission, Placed, Refusal};
+use calls::answers::{Placed, Refusal};
 use calls::records::GrowthRecord;
 use hashing::{Geometry, Parameters};
 use reports::Report;
@@ -174,7 +174,7 @@ fn file_loaded(
         poolowners.len(),
     );
     let fits = all_fit(lent, tray_fits(places, count, filter.len()));
-    if let Admission::Refused(refusal) = call_guard::admit(parameters, growth, fits) {
+    if let Err(refusal) = call_guard::admit(parameters, growth, fits) {
         return not_filed(refusal, count);
     }
     if growth.growing {

@@ -12,7 +12,7 @@ ghost use Rattle.tray_list.specs.Latest.{or_plain};
 ghost use Rattle.tray.specs.Refusals.{tray_lengths, screen_refusal, scanned};
 
 use crate::adding::{position_of, tray_fits};
-use calls::answers::{Admission, Found, Refusal};
+use calls::answers::{Found, Refusal};
 use calls::records::GrowthRecord;
 use hashing::Parameters;
 use reports::Report;
@@ -21,7 +21,7 @@ use tray_list::{Latest, latest_on};
 // The refusal, if any, and how many reports are to be read: none if the filter says "no".
 #[derive(Clone, Copy)]
 struct Screened {
-    admission: Admission,
+    admission: Result<(), Refusal>,
     reports: usize,
 }
 
@@ -78,13 +78,13 @@ fn screen(
         call_guard::file_fits(parameters, separators, numbers, words, owners),
         tray_fits(places, count, filter.len()),
     );
-    if let Admission::Refused(refusal) = call_guard::admit(parameters, growth, fits) {
+    if let Err(refusal) = call_guard::admit(parameters, growth, fits) {
         return turn_away(refusal);
     }
     if !pages::position::number_valid(number) {
         return turn_away(Refusal::BadNumber);
     }
-    let admission = Admission::Passed;
+    let admission = Ok(());
     if !tray_filter::passes(parameters.multiplier, filter, number) {
         return Screened {
             admission,
@@ -109,7 +109,7 @@ pub fn all_fit(file: bool, tray: bool) -> bool
 fn turn_away(refusal: Refusal) -> Screened
     ensures { (admission_number result.admission ≡ refusal_number refusal) × (result.reports ≡ 0) }
 {
-    let admission = Admission::Refused(refusal);
+    let admission = Err(refusal);
     Screened {
         admission,
         reports: 0,
@@ -133,7 +133,7 @@ fn answer(
         (or_plain parameters.pages found (plain_answer parameters growth (held separators.now numbers.now words.now owners.now) number)) }
 {
     let admission = screened.admission;
-    if let Admission::Refused(refusal) = admission {
+    if let Err(refusal) = admission {
         return Found::Refused(refusal, 0);
     }
     if found.found {

@@ -24,17 +24,11 @@ fn count_ones(filter: &[u64]) -> u32
     requires { length filter.now ≡ 32 }
     ensures { result ≡ bits_set filter.now }
 {
-    let mut count = 0u32;
-    let mut i = 0;
-    while i < 32 {
-        count += ones_of(filter[i]);
-        i += 1;
-    }
-    count
+    filter.iter().map(|word| ones_of(*word)).sum()
 }
 
 fn ones_of(word: u64) -> u32
-    ensures { (result ≡ ones word 64) × (result ≤ 64) }
+    ensures { result ≡ ones word 64 }
 {
     u64::count_ones(word)
 }

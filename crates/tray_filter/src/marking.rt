@@ -100,11 +100,8 @@ pub fn remake(
     requires from_le_count { (from ≤ count) × (count ≤ 256) }
     ensures { filter.new ≡ filter_of multiplier (drop from (take count reports)) }
 {
-    buffers::fill_64(filter, 0);
-    let mut i = from;
-    while i < count {
-        let report = reports[i];
+    buffers::fill(filter, 0);
+    for report in &reports[from..count] {
         mark(multiplier, filter, report.number);
-        i += 1;
     }
 }

@@ -7,13 +7,16 @@ use native.Mathlib.Nat.{not-suc-le-zero}
 use native.Mathlib.Omega.{arith}
 use lib.Dec.{ltb}
 use lib.ListN.{length, take, drop, get_or, replicate, length-append, length-drop, length-replicate, get_or-append}
-use lib.Seq.{get_or-append_seam, get_or-append-add, get_or-take, get_or-drop, length-take-le, take_at, drop-length, ext_get_or}
+use Rattle.std.proofs.lemmas.List.{drop_at, drop-drop, drop-take, append_assoc}
+use native.Mathlib.Nat.{zero-add}
+use lib.Seq.{paste, get_or-append_seam, get_or-append-add, get_or-take, get_or-drop, length-take-le, take_at, drop-length, ext_get_or}
 use borrow.Author.Tests.{lt-ltb, le-ltb, ltb-true, ltb-false}
 use Rattle.reports.specs.declared.Report.{Report}
 use Rattle.reports.specs.Reports.{no_report}
 use Rattle.tray_list.specs.Closing.{kept_or, places_after, closed_to}
 use Rattle.tray_list.specs.Loading.{loaded}
 use Rattle.tray_list.proofs.Closing.{length-places}
+use borrow.Rule.Slice.PartMut.{put_mid}
 
 -- the first n reports of the list are those of its copy
 pub taken-loaded : (n : ℕ) (ys : List Report) → n ≤ length ys → take n (loaded (take n ys)) ≡ take n ys
@@ -65,6 +68,21 @@ places-are m n k ys h g =
     ext_get_or no_report (places_after m n k ys) (staying m n ys ++ replicate (k - n) no_report)
     (length-places m n k ys ∙ sym (length-append (staying m n ys) (replicate (k - n) no_report) ∙ rw (length-staying m n ys h, length-replicate (k - n) no_report) (omega (arith, g))))
     (λ i l. place_at m n k ys i (rw (length-places m n k ys) at l) ∙ stays_at m n k ys i h)
+
+pub blanks : (n k : ℕ) (ys : List Report) → k ≤ length ys → length (take (k - n) (drop n ys)) ≡ k - n
+blanks n k ys h = length-take-le (k - n) (drop n ys) (rw length-drop (omega arith))
+
+moved : (m n : ℕ) (ys : List Report) → paste ys 0 (drop m ys) n ≡ staying m n ys ++ drop n ys
+moved m n ys = rw (zero-add n, drop-take m n ys)
+
+-- the reports that stay, zeros, and the others as they were
+pub closed_parts : (m n k : ℕ) (ys : List Report) → m + n ≤ k → k ≤ length ys → put_mid n (k - n) (paste ys 0 (drop m ys) n) (replicate (k - n) no_report) ≡ closed_to m n k ys
+unfolding closed_to
+closed_parts m n k ys h b =
+    let size : length (staying m n ys) ≡ n = length-staying m n ys (omega arith) in
+    let back : n + (k - n) ≡ k = omega arith in
+    ap (λ (xs : List Report). put_mid n (k - n) xs (replicate (k - n) no_report)) (moved m n ys)
+    ∙ rw (take_at (staying m n ys) (drop n ys) n size, drop_at (staying m n ys) (drop n ys) n size, drop-drop, back, places-are m n k ys (omega arith) (omega arith), append_assoc)
 
 -- "the others close up before zeros"
 pub closed-up : (m n : ℕ) (ys : List Report) → length ys ≡ 256 → m + n ≤ 256 → closed_to m n 256 ys ≡ drop m (take (m + n) ys) ++ replicate (256 - n) no_report

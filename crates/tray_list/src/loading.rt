@@ -10,11 +10,7 @@ pub fn load(reports: &[Report], count: usize) -> [Report; 256]
     ensures { result ≡ loaded (take count reports.now) }
 {
     let mut copy = blanks();
-    let mut i = 0;
-    while i < count {
-        copy[i] = reports[i];
-        i += 1;
-    }
+    copy[..count].copy_from_slice(&reports[..count]);
     copy
 }
 

@@ -17,10 +17,8 @@ pub fn latest_on(reports: &[Report], count: usize, number: u32) -> Latest
     ensures { result ≡ latest_in number Latest·nothing (take count reports.now) }
 {
     let mut found = nothing();
-    let mut i = 0;
-    while i < count {
-        found = later(found, number, reports[i]);
-        i += 1;
+    for report in &reports[..count] {
+        found = later(found, number, *report);
     }
     found
 }

@@ -1,6 +1,5 @@
 -- `survey::first_unsound` meets its contract.
 use native.Mathlib.Omega.{arith}
-use borrow.Author.Rules.{rules}
 use Rattle.survey.proofs.first_unsound.Goals as goal
 
 pub survey-requires : goal.survey-requires

@@ -1,13 +1,7 @@
 -- `survey::lowest_unsound` meets its contract.
 use Prim.Native.Nat.{◌-◌}
-use native.Mathlib.Nat.{mul-le-mul_right, div-mul-le_self, le-div_iff_mul-le, zero-add}
-use native.Mathlib.Omega.{arith}
-use borrow.Author.Rules.{rules}
-use Rattle.hashing.proofs.Bounds.{limits}
-use Rattle.placement.specs.File.{File}
 use Rattle.placement.specs.Hash.{sound_at, lent}
-use Rattle.reach.proofs.Surveyed.{lowest_first_lem, lowest_wider, passed_on}
-use Rattle.soundness.proofs.Lent.{Passed, passed_none, passed_then, passed-all}
+use Rattle.soundness.proofs.Lent.{Passed}
 use Rattle.survey.proofs.lowest_unsound.Given as goal
 
 -- the pages below this one are sound

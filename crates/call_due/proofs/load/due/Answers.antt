@@ -14,15 +14,14 @@ use Rattle.calls.specs.Answers.{After, lent, due_said}
 use Rattle.calls.specs.Shape.{Admitted}
 use Rattle.calls.specs.Calls.{unlent, due_of, file_fits_lem}
 use Rattle.call_due.specs.Used.{Reaches}
-use Rattle.calls.specs.Due.{stars, pages_in_use, exceeds, is_due}
+use Rattle.calls.specs.Due.{pages_in_use, exceeds, is_due}
 use Rattle.calls.specs.Shape.{admission_number}
-use Rattle.calls.specs.declared.answers.Admission.{Admission}
-use Rattle.calls.specs.declared.answers.Admission.TheVariants.{Passed}
+use Rattle.std.specs.Prelude.{Result, Ok, Err}
+use Rattle.calls.specs.declared.answers.Refusal.{Refusal}
 use Rattle.calls.proofs.Refusals.{turned-away, refusal_is, none_is, admitted, items-most}
 use Rattle.call_due.proofs.Tallies.{stars-most, blank-stars}
 use Rattle.calls.proofs.InUse.{in_use_most}
 use Rattle.call_due.proofs.Reached.{in_use_reached}
-use borrow.Author.Rules.{rules}
 use Rattle.hashing.specs.declared.Parameters.{Parameters}
 use Rattle.hashing.specs.declared.Growth.{Growth}
 use Rattle.call_due.proofs.load.due.Goals as goal
@@ -60,12 +59,12 @@ module _ (p : Parameters) (g : Growth) (f : File) (none : unlent p g (file_fits_
     pages-most : pages ≤ 1024
     pages-most = omega (arith, pages-are, in_use_most _ _ f.numbers highest-most, (limits _ lent-well.homing.valid).pages_most)
 
-none-of : (p : Parameters) (g : Growth) (f : File) {fits : Bool} {a : Admission} → admission_number a ≡ unlent p g fits → fits ≡ file_fits_lem p f → a ≡ Passed → unlent p g (file_fits_lem p f) ≡ 0
+none-of : (p : Parameters) (g : Growth) (f : File) {fits : Bool} {a : Result (Unit {0}) Refusal} → admission_number a ≡ unlent p g fits → fits ≡ file_fits_lem p f → a ≡ Ok tt → unlent p g (file_fits_lem p f) ≡ 0
 none-of p g f e l t = none_is _ _ e l t
 
-pub returns-in-Refused : goal.returns-in-Refused
+pub returns-in-Err : goal.returns-in-Err
 unfolding due_of due_said file_fits_lem
-returns-in-Refused c = sym (ap (λ (x : After). x.answer) (turned-away _ _ _ _ _ _ _ (refusal_is _ _ c.guard.ensures c.file_fits-fits.ensures c.in-Refused.is)))
+returns-in-Err c = sym (ap (λ (x : After). x.answer) (turned-away _ _ _ _ _ _ _ (refusal_is _ _ c.guard.ensures c.file_fits-fits.ensures c.in-Err.is)))
 
 pub highest_address-highest-requires : goal.highest_address-highest-requires
 unfolding file_fits_lem

@@ -1,7 +1,6 @@
 -- `call_due::end_of_use` meets its contract.
 use mathlib.Core.Path.{◌∙◌, sym}
 use native.Mathlib.Omega.{arith}
-use borrow.Author.Rules.{rules}
 use Rattle.call_due.proofs.Tallies.{blank-all, blank-block}
 use Rattle.call_due.proofs.load.end_of_use.Goals as goal
 

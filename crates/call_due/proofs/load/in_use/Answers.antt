@@ -2,7 +2,6 @@
 use Prim.Native.Nat.{◌-◌}
 use native.Mathlib.Nat.{div-le_self}
 use native.Mathlib.Omega.{arith}
-use borrow.Author.Rules.{rules}
 use Rattle.call_due.proofs.Reached.{needed_none, needed_pages}
 use Rattle.call_due.proofs.load.in_use.Goals as goal
 

@@ -1,13 +1,9 @@
--- `call_due::trimmed` meets its contract.
-use mathlib.Core.Path.{◌∙◌, sym}
-use native.Mathlib.Omega.{arith}
-use lib.ListN.{length-take, length-drop}
-use Rattle.call_due.specs.Used.{Blank}
-use Rattle.call_due.proofs.Tallies.{blank-all, blank-block}
+use lib.ListN.{length}
+use Rattle.call_due.proofs.Tallies.{Trimmed}
 use Rattle.call_due.proofs.load.trimmed.Given as goal
 
-abbrev pub invariant-loop-end : goal.invariant-loop-end
-invariant-loop-end l = Blank l.numbers l.end
+abbrev pub invariant-loop-front : goal.invariant-loop-front
+invariant-loop-front l = Trimmed l.numbers l.rest
 
-abbrev pub decreases-loop-end : goal.decreases-loop-end
-decreases-loop-end l = l.end
+abbrev pub decreases-loop-front : goal.decreases-loop-front
+decreases-loop-front l = length l.rest

@@ -1,9 +1,7 @@
 -- `call_guard::lending::guard` meets its contract.
 use mathlib.Core.Path.{sym, ap}
-use borrow.Author.Tests.{not-true, not-false}
 use Rattle.hashing.proofs.Bounds.{passed, failed}
 use Rattle.calls.proofs.Refusals.{bad_state, bad_lengths, well-lent}
-use borrow.Author.Rules.{rules}
 use mathlib.Core.Bool.{not}
 use Rattle.call_guard.proofs.lending.guard.Goals as goal
 

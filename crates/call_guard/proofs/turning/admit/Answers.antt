@@ -2,7 +2,6 @@
 use mathlib.Core.Path.{sym, ◌∙◌, ap}
 use Rattle.hashing.proofs.Bounds.{passed, failed}
 use Rattle.call_guard.proofs.Turned.{bad_steps, good-steps}
-use borrow.Author.Rules.{rules}
 use mathlib.Core.Bool.{not}
 use Rattle.call_guard.proofs.turning.admit.Goals as goal
 

@@ -4,12 +4,11 @@ use Rattle.calls.specs.Answers.{placed}
 use Rattle.calls.specs.Calls.{file_fits_lem, pool_fits_lem}
 use Rattle.outcome_answer.proofs.Pools.{cleared-is}
 use Rattle.call_guard.proofs.Turned.{turned, held_up}
-use borrow.Author.Rules.{rules}
 use Rattle.call_guard.proofs.turning.turn_away.Goals as goal
 
-pub returns-in-Refused : goal.returns-in-Refused
+pub returns-in-Err : goal.returns-in-Err
 unfolding placed file_fits_lem pool_fits_lem
-returns-in-Refused c = λ after. turned _ _ _ _ _ after c.requires c.admit.ensures c.all_fit-fits.ensures c.in-Refused.is
+returns-in-Err c = λ after. turned _ _ _ _ _ after c.requires c.admit.ensures c.all_fit-fits.ensures c.in-Err.is
 
 pub returns : goal.returns
 unfolding placed file_fits_lem pool_fits_lem

@@ -14,19 +14,19 @@ use Rattle.calls.specs.Calls.{unlent, look_up_of, looked_up, file_fits_lem, file
 use Rattle.calls.proofs.Refusals.{turned-away-first, refusal_is, none_is, admitted}
 use Rattle.call_guard.proofs.Admitting.{prepared, tabled}
 use borrow.Author.Rules.{rules}
-use Rattle.calls.specs.declared.answers.Admission.{Admission}
-use Rattle.calls.specs.declared.answers.Admission.TheVariants.{Passed}
+use Rattle.std.specs.Prelude.{Result, Ok, Err}
+use Rattle.calls.specs.declared.answers.Refusal.{Refusal}
 use Rattle.hashing.specs.declared.Parameters.{Parameters}
 use Rattle.hashing.specs.declared.Growth.{Growth}
 use Rattle.call_look_up.proofs.reading.look_up.Goals as goal
 
-pub returns-in-Refused : goal.returns-in-Refused
+pub returns-in-Err : goal.returns-in-Err
 unfolding look_up_of sought file_fits_lem
-returns-in-Refused c = sym (ap (λ (x : After). x.answer) (turned-away-first _ _ _ _ _ _ _ _ (refusal_is _ _ c.guard.ensures c.file_fits-fits.ensures c.in-Refused.is)))
+returns-in-Err c = sym (ap (λ (x : After). x.answer) (turned-away-first _ _ _ _ _ _ _ _ (refusal_is _ _ c.guard.ensures c.file_fits-fits.ensures c.in-Err.is)))
 
 -- what is known past the guard
-none : (p : Parameters) (g : Growth) (f : File) {fits : Bool} {a : Admission} → admission_number a ≡ unlent p g fits
-    → fits ≡ file_lengths p (length f.separators) (length f.numbers) (length f.words) (length f.owners) → a ≡ Passed → unlent p g (file_fits_lem p f) ≡ 0
+none : (p : Parameters) (g : Growth) (f : File) {fits : Bool} {a : Result (Unit {0}) Refusal} → admission_number a ≡ unlent p g fits
+    → fits ≡ file_lengths p (length f.separators) (length f.numbers) (length f.words) (length f.owners) → a ≡ Ok tt → unlent p g (file_fits_lem p f) ≡ 0
 unfolding file_fits_lem
 none p g f e l t = none_is _ _ e l t
 

@@ -19,8 +19,8 @@ use Rattle.calls.specs.Stores.{change_stopped_of}
 use Rattle.outcome_answer.proofs.Stopped.{unmoved-leaves}
 use Rattle.call_look_up.proofs.Rewritten.{rewritten-leaves}
 use borrow.Author.Rules.{rules}
-use Rattle.calls.specs.declared.answers.Admission.{Admission}
-use Rattle.calls.specs.declared.answers.Admission.TheVariants.{Passed}
+use Rattle.std.specs.Prelude.{Result, Ok, Err}
+use Rattle.calls.specs.declared.answers.Refusal.{Refusal}
 use Rattle.hashing.specs.declared.Parameters.{Parameters}
 use Rattle.hashing.specs.declared.Growth.{Growth}
 use Rattle.pages.specs.declared.position.Position.{Position}
@@ -29,8 +29,8 @@ use Rattle.named_page.specs.Named.{NamedAs}
 use Rattle.call_look_up.proofs.rewriting.change_stopped.Goals as goal
 
 -- what is known past the guard
-none : (p : Parameters) (g : Growth) (f : File) {fits : Bool} {a : Admission} → admission_number a ≡ unlent p g fits
-    → fits ≡ file_lengths p (length f.separators) (length f.numbers) (length f.words) (length f.owners) → a ≡ Passed → unlent p g (file_fits_lem p f) ≡ 0
+none : (p : Parameters) (g : Growth) (f : File) {fits : Bool} {a : Result (Unit {0}) Refusal} → admission_number a ≡ unlent p g fits
+    → fits ≡ file_lengths p (length f.separators) (length f.numbers) (length f.words) (length f.owners) → a ≡ Ok tt → unlent p g (file_fits_lem p f) ≡ 0
 unfolding file_fits_lem
 none p g f e l t = none_is _ _ e l t
 
@@ -44,13 +44,13 @@ module _ (p : Parameters) (g : Growth) (f : File) (caller k : ℕ) (position : P
       leaves _ _ g _ _
       (rw (passed-guard, numbered, positioned, sym found.readable_is ∙ read, sym (found.held_is read) ∙ there, may, ← found.place_is_lem read, found.page_is, found.item_is there))
 
-pub returns-in-Refused : goal.returns-in-Refused
+pub returns-in-Err : goal.returns-in-Err
 unfolding change_stopped_of change_of placed file_fits_lem
-returns-in-Refused c =
+returns-in-Err c =
     let f = lent c.args.separators.now c.args.numbers.now c.args.words.now c.args.owners.now in
     let call = change_of c.args.parameters c.args.growth f unpooled c.args.caller c.args.number c.args.position in
     unmoved-leaves true c.args.parameters c.args.stores {after = call}
-    (leaves _ _ _ _ _ (turned-away-first _ _ _ _ _ _ _ _ (refusal_is _ _ c.guard.ensures c.file_fits-fits.ensures c.in-Refused.is)))
+    (leaves _ _ _ _ _ (turned-away-first _ _ _ _ _ _ _ _ (refusal_is _ _ c.guard.ensures c.file_fits-fits.ensures c.in-Err.is)))
 
 pub returns-then-not-number_valid : goal.returns-then-not-number_valid
 unfolding change_stopped_of change_of placed refused_by

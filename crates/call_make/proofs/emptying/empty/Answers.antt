@@ -10,7 +10,7 @@ use Rattle.call_make.proofs.emptying.empty.Goals as goal
 pub returns : goal.returns
 returns c =
     emptied c.args.parameters (lent c.args.separators.now c.args.numbers.now c.args.words.now c.args.owners.now) _ _ _ _ c.requires.sized
-    (c.fill_8.ensures ∙ ap (replicate {A = ℕ} (length c.args.separators.now)) c.top_of-top.ensures)
+    (c.fill.ensures ∙ ap (replicate {A = ℕ} (length c.args.separators.now)) c.top_of-top.ensures)
     c.clear.ensures.pool_after
     c.clear.ensures.waiting_after
     c.clear.ensures.poolowners_after

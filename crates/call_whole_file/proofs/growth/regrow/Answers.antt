@@ -11,23 +11,23 @@ use Rattle.outcome_answer.proofs.Pools.{cleared-is, leaves-cleared}
 use Rattle.call_whole_file.proofs.Stepping.{regrow_guarded, regrown-pool}
 use borrow.Author.Rules.{rules}
 use lib.ListN.{length}
-use Rattle.calls.specs.declared.answers.Admission.{Admission}
-use Rattle.calls.specs.declared.answers.Admission.TheVariants.{Passed}
+use Rattle.std.specs.Prelude.{Result, Ok, Err}
+use Rattle.calls.specs.declared.answers.Refusal.{Refusal}
 use Rattle.hashing.specs.declared.Parameters.{Parameters}
 use Rattle.hashing.specs.declared.Growth.{Growth}
 use Rattle.call_whole_file.proofs.growth.regrow.Goals as goal
 
 -- what is known past the guard
-none : (p : Parameters) (g : Growth) (f : File) (pool : Pool) {fits : Bool} {a : Admission} → admission_number a ≡ unlent p g fits
+none : (p : Parameters) (g : Growth) (f : File) (pool : Pool) {fits : Bool} {a : Result (Unit {0}) Refusal} → admission_number a ≡ unlent p g fits
     → fits ≡ (file_lengths p (length f.separators) (length f.numbers) (length f.words) (length f.owners) && pool_lengths p (length pool.numbers) (length pool.words) (length pool.owners))
-    → a ≡ Passed → unlent p g (file_fits_lem p f && pool_fits_lem p pool) ≡ 0
+    → a ≡ Ok tt → unlent p g (file_fits_lem p f && pool_fits_lem p pool) ≡ 0
 unfolding file_fits_lem pool_fits_lem
 none p g f pool e l t = none_is _ _ e l t
 
-pub returns-in-Refused : goal.returns-in-Refused
+pub returns-in-Err : goal.returns-in-Err
 unfolding placed file_fits_lem pool_fits_lem
-returns-in-Refused c =
-    let made = made_by _ _ _ _ _ (turned-away _ _ _ _ _ _ _ (refusal_is _ _ c.guard.ensures c.all_fit-fits.ensures c.in-Refused.is)) in
+returns-in-Err c =
+    let made = made_by _ _ _ _ _ (turned-away _ _ _ _ _ _ _ (refusal_is _ _ c.guard.ensures c.all_fit-fits.ensures c.in-Err.is)) in
     record { leaves = rw (regrow_guarded c.args.back _ _ _ _, c.unmoved.ensures) made.0; growth_value = rw (regrow_guarded c.args.back _ _ _ _, c.unmoved.ensures) made.1 }
 
 pub regrow_file-answer-requires : goal.regrow_file-answer-requires

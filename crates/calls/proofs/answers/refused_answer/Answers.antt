@@ -1,8 +1,7 @@
 -- `calls::answers::refused_answer` meets its contract.
 use Rattle.calls.specs.Answers.{refused_by}
-use borrow.Author.Rules.{rules}
 use Rattle.calls.proofs.answers.refused_answer.Goals as goal
 
 pub returns : goal.returns
 unfolding refused_by
-returns c = rw (c.at_spot.ensures, c.number_of-told.ensures.0, c.number_of-told.ensures.1)
+returns c = rw (c.at_spot.ensures, c.number_of-number.ensures.0, c.number_of-number.ensures.1)

@@ -5,4 +5,4 @@ use Rattle.carrying.proofs.second.write_second.Goals as goal
 pub returns : goal.returns
 returns c =
     let filled = c.fill_second.ensures in
-    second-written c.args.secondseparators.now c.args.planned.now _ _ _ _ _ _ _ c.requires.secondseparators_in_bounds c.copy_8.ensures filled.secondnumbers_after filled.secondwords_after filled.secondowners_after
+    second-written c.args.secondseparators.now c.args.planned.now _ _ _ _ _ _ _ c.requires.secondseparators_in_bounds c.copy.ensures filled.secondnumbers_after filled.secondwords_after filled.secondowners_after

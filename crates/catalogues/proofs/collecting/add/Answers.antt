@@ -3,12 +3,12 @@ use native.Mathlib.Omega.{arith}
 use Prim.Native.Nat.{ℕ, ◌<◌}
 use mathlib.Core.Bool.{true}
 use mathlib.Core.Path.{◌≡◌}
+use mathlib.Core.Logic.{⊎_elim}
 use Rattle.catalogues.specs.declared.entries.Effect.{Effect}
 use Rattle.catalogues.specs.declared.entries.Effect.TheVariants.{Added}
 use Rattle.catalogues.specs.Entries.{added_to}
 use Rattle.catalogues.specs.Shape.{is_added}
 use Rattle.catalogues.proofs.Held.{held-add}
-use borrow.Author.Rules.{rules}
 use Rattle.catalogues.proofs.collecting.add.Goals as goal
 
 -- a row that is added has its place
@@ -34,20 +34,6 @@ returns-in-Added c =
 pub returns-in-Repeated : goal.returns-in-Repeated
 unfolding added_to
 returns-in-Repeated c = record {
-  words_after = rw c.in-Repeated.is;
-  upper_bound = c.requires.count_bound.0;
-}
-
-pub returns-in-Refused : goal.returns-in-Refused
-unfolding added_to
-returns-in-Refused c = record {
-  words_after = rw c.in-Refused.is;
-  upper_bound = c.requires.count_bound.0;
-}
-
-pub returns-in-Malformed : goal.returns-in-Malformed
-unfolding added_to
-returns-in-Malformed c = record {
-  words_after = rw c.in-Malformed.is;
+  words_after = ⊎_elim (λ e. rw e) (⊎_elim (λ h. rw (h.1)) (λ e. rw e)) c.in-Repeated.is;
   upper_bound = c.requires.count_bound.0;
 }

@@ -1,62 +1,25 @@
 -- `catalogues::collecting::collect` meets its contract.
-use native.Mathlib.Omega.{arith}
-use mathlib.Core.List.{List}
-use Rattle.lines.specs.Replies.{TextAt}
-use Prim.Native.Nat.{ℕ, ◌*◌, ◌-◌, ◌≤◌}
-use native.Mathlib.Numerals.{add-one}
-use mathlib.Core.Path.{◌≡◌, sym, ap, ◌∙◌}
-use lib.ListN.{length, take}
-use lib.Seq.{take_all, length-sets}
-use Rattle.lines.specs.Programs.{Stands}
+use Rattle.std.proofs.Common.{◌≡◌, add-one, take, arith}
+use Rattle.std.proofs.Math.Seq.{take_all}
 use Rattle.lines.proofs.Programs.{start-stands, block_more}
-use Rattle.catalogues.specs.Runs.{cataloguing, run_held, Fit}
 use Rattle.catalogues.proofs.collecting.collect.Goals as goal
 
-same_size : (before text after : List ℕ) (at next : ℕ) → TextAt at text before after next → length after ≡ length before
-same_size before text after at next w = ap length w.buffer ∙ simp length-sets
+pub loop-byte-init : goal.loop-byte-init
+loop-byte-init c = (omega arith, c.requires.fit, start-stands _ _ _ _)
 
-pub loop-i-init : goal.loop-i-init
-loop-i-init c = (omega arith, omega arith, c.requires.fit, start-stands _ _ _ _)
-
-pub bounds-block-i : goal.bounds-block-i
-bounds-block-i c = omega arith
-
-pub take_byte-step-requires : goal.take_byte-step-requires
-take_byte-step-requires c =
-    record {
-      fit = c.loop-i.invariant.2;
-      at_in_bounds = omega (arith, same_size _ _ _ _ _ c.loop-i.invariant.3.text, c.loop-i-test.true, c.loop-i.invariant.1, c.requires.block_in_bounds);
-    }
-
-pub overflow_add-i : goal.overflow_add-i
-overflow_add-i c = omega arith
-
-pub loop-i-smaller : goal.loop-i-smaller
-loop-i-smaller c = omega (arith, c.loop-i-test.true)
-
-pub loop-i-preserved : goal.loop-i-preserved
-loop-i-preserved c =
-    rw (add-one c.loop-i.i) (
-      omega (arith, c.loop-i-test.true),
-      omega (arith, c.take_byte-step.ensures.stands.1, c.loop-i.invariant.1),
+pub loop-byte-preserved : goal.loop-byte-preserved
+loop-byte-preserved c =
+    rw (add-one c.loop-byte.byte-index) (
+      omega (arith, c.take_byte-step.ensures.stands.1),
       c.take_byte-step.ensures.fit_2,
-      block_more _ _ _ _ _ _ _ _ _ _ _ c.loop-i-test.true c.loop-i.invariant.3 c.take_byte-step.ensures.stands.0,
+      block_more _ _ _ _ _ _ _ _ _ _ _ c.loop-byte-test.true c.loop-byte.invariant.2 c.take_byte-step.ensures.stands.0,
     )
-
-pub shape_of-numbers : goal.shape_of-numbers
-shape_of-numbers c = c.loop-i.invariant.2.numbers ∙ sym c.requires.fit.numbers
-
-pub shape_of-words : goal.shape_of-words
-shape_of-words c = c.loop-i.invariant.2.words ∙ sym c.requires.fit.words
-
-pub shape_of-out : goal.shape_of-out
-shape_of-out c = same_size _ _ _ _ _ c.loop-i.invariant.3.text
 
 pub returns : goal.returns
 returns c =
     let block = c.args.block.now in
-    let all : take c.loop-i.i block ≡ block = take_all _ _ c.loop-i-test.false in
+    let all : take c.loop-byte.byte-index block ≡ block = take_all _ _ c.loop-byte-test.false in
     record {
-      fit_2 = c.loop-i.invariant.2;
-      stands = (rw all at c.loop-i.invariant.3, omega (arith, c.loop-i.invariant.0, c.loop-i.invariant.1));
+      fit_2 = c.loop-byte.invariant.1;
+      stands = (rw all at c.loop-byte.invariant.2, omega arith);
     }

@@ -1,19 +1,19 @@
+use Rattle.std.proofs.Common.{◌≡◌, ℕ, false, refl, ⊎_elim}
+use Rattle.catalogues.specs.declared.entries.Effect.{Effect}
+use Rattle.catalogues.specs.declared.entries.Effect.TheVariants.{Added, Repeated, Refused, Malformed}
 use Rattle.catalogues.specs.Entries.{is_refusal_lem}
-use borrow.Author.Rules.{rules}
 use Rattle.catalogues.proofs.collecting.is_refusal.Goals as goal
 
-pub returns-in-Added : goal.returns-in-Added
+neither : (e : Effect) → ((n : ℕ) → e ≡ Refused n → ⊥) → (e ≡ Malformed → ⊥) → false ≡ is_refusal_lem e
 unfolding is_refusal_lem
-returns-in-Added c = rw c.in-Added.is
-
-pub returns-in-Repeated : goal.returns-in-Repeated
-unfolding is_refusal_lem
-returns-in-Repeated c = rw c.in-Repeated.is
+neither (Added number word) r m = refl
+neither Repeated r m = refl
+neither (Refused n) r m = absurd (r n refl)
+neither Malformed r m = absurd (m refl)
 
 pub returns-in-Refused : goal.returns-in-Refused
 unfolding is_refusal_lem
-returns-in-Refused c = rw c.in-Refused.is
+returns-in-Refused c = ⊎_elim (λ h. rw (h.1)) (λ e. rw e) c.in-Refused.is
 
-pub returns-in-Malformed : goal.returns-in-Malformed
-unfolding is_refusal_lem
-returns-in-Malformed c = rw c.in-Malformed.is
+pub returns-in_default : goal.returns-in_default
+returns-in_default c = neither _ c.in_default.not-Refused c.in_default.not-Malformed

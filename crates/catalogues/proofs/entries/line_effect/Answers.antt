@@ -2,6 +2,7 @@
 use mir.Syntax.{w32}
 use mir.Val.{to_z, of_z}
 use mathlib.Core.Path.{◌≡◌}
+use mathlib.Core.Logic.{⊎_elim}
 use Rattle.catalogues.specs.Entries.{effect_of}
 use borrow.Author.Rules.{rules}
 use Rattle.catalogues.proofs.entries.line_effect.Goals as goal
@@ -15,16 +16,6 @@ returns-in-Enter c =
 
 pub returns-in-LookUp : goal.returns-in-LookUp
 unfolding effect_of
-returns-in-LookUp c = rw (← c.parse_line.ensures, c.in-LookUp.is)
-
-pub returns-in-Remove : goal.returns-in-Remove
-unfolding effect_of
-returns-in-Remove c = rw (← c.parse_line.ensures, c.in-Remove.is)
-
-pub returns-in-Grow : goal.returns-in-Grow
-unfolding effect_of
-returns-in-Grow c = rw (← c.parse_line.ensures, c.in-Grow.is)
-
-pub returns-in-Bad : goal.returns-in-Bad
-unfolding effect_of
-returns-in-Bad c = rw (← c.parse_line.ensures, c.in-Bad.is)
+returns-in-LookUp c =
+    rw (← c.parse_line.ensures)
+    (⊎_elim (λ h. rw (h.1)) (⊎_elim (λ h. rw (h.1)) (⊎_elim (λ e. rw e) (λ e. rw e))) c.in-LookUp.is)

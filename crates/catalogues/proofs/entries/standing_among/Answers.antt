@@ -1,44 +1,29 @@
 -- `catalogues::entries::standing_among` meets its contract.
-use Prim.Native.Nat.{◌-◌, ◌≤◌}
-use native.Mathlib.Omega.{arith}
-use mathlib.Core.Path.{refl}
-use borrow.Author.Rules.{rules}
-use Rattle.catalogues.proofs.Held.{Sought, sought-next, sought-same, sought-other, sought-last}
+use Rattle.std.proofs.Common.{ℕ, ◌≡◌, take, Some, None, rules, tests, arith}
+use Rattle.std.proofs.lemmas.Iterator.{YieldsList-from_slice, IsFirst-from_position}
+use Rattle.catalogues.proofs.Held.{first_at, none_there, sought-same, sought-other, sought-last}
 use Rattle.catalogues.proofs.entries.standing_among.Goals as goal
 
-pub loop-i-init : goal.loop-i-init
-loop-i-init c = (omega arith, refl)
+pub returns-in-Some : goal.returns-in-Some
+returns-in-Some c =
+    let a = c.args in
+    let first = first_at a.count a.numbers.now a.words.now c.requires.0 c.requires.1 a.number a.word c.in-Some.i
+    (IsFirst-from_position _ _ (Some c.in-Some.i) (λ (n : ℕ). n ≡ a.number) (λ n. n ≡ a.number → ⊥) c.in-Some.ensures.ran
+    (YieldsList-from_slice (take a.count a.numbers.now) cc) (λ x q k. search (rules, tests)) (λ x q k. search (rules, tests))) in
+    sought-same a.count a.numbers.now a.words.now c.requires.0 c.requires.1 a.number a.word c.in-Some.i first.0 first.1 c.if-words-i.true first.2
 
-pub bounds-numbers-i : goal.bounds-numbers-i
-bounds-numbers-i c = omega (arith, c.loop-i-test.true, c.requires.0)
+pub returns-in-Some-2 : goal.returns-in-Some-2
+returns-in-Some-2 c =
+    let a = c.args in
+    let first = first_at a.count a.numbers.now a.words.now c.requires.0 c.requires.1 a.number a.word c.in-Some.i
+    (IsFirst-from_position _ _ (Some c.in-Some.i) (λ (n : ℕ). n ≡ a.number) (λ n. n ≡ a.number → ⊥) c.in-Some.ensures.ran
+    (YieldsList-from_slice (take a.count a.numbers.now) cc) (λ x q k. search (rules, tests)) (λ x q k. search (rules, tests))) in
+    sought-other a.count a.numbers.now a.words.now c.requires.0 c.requires.1 a.number a.word c.in-Some.i first.0 first.1 c.if-words-i.false first.2
 
-pub bounds-words-i : goal.bounds-words-i
-bounds-words-i c = omega (arith, c.loop-i-test.true, c.requires.1)
-
-pub returns-then-words-i : goal.returns-then-words-i
-returns-then-words-i c =
-    sought-same c.args.count c.args.numbers.now c.args.words.now c.requires.0 c.requires.1 c.args.number c.args.word c.loop-i.i
-    c.loop-i-test.true c.if-numbers-i.true c.if-words-i.true c.loop-i.invariant.1
-
-pub returns-then-numbers-i : goal.returns-then-numbers-i
-returns-then-numbers-i c =
-    sought-other c.args.count c.args.numbers.now c.args.words.now c.requires.0 c.requires.1 c.args.number c.args.word c.loop-i.i
-    c.loop-i-test.true c.if-numbers-i.true c.if-words-i.false c.loop-i.invariant.1
-
-pub overflow_add-i : goal.overflow_add-i
-overflow_add-i c = omega (arith, c.loop-i-test.true, c.requires.0)
-
-pub loop-i-smaller : goal.loop-i-smaller
-loop-i-smaller c = omega arith
-
-pub loop-i-preserved : goal.loop-i-preserved
-loop-i-preserved c = (
-  omega arith,
-  sought-next c.args.count c.args.numbers.now c.args.words.now c.requires.0 c.requires.1 c.args.number c.args.word c.loop-i.i
-      c.loop-i-test.true c.if-numbers-i.false c.loop-i.invariant.1,
-)
-
-pub returns : goal.returns
-returns c =
-    sought-last c.args.count c.args.numbers.now c.args.words.now c.requires.0 c.requires.1 c.args.number c.args.word c.loop-i.i
-    c.loop-i.invariant.0 (omega (arith, c.loop-i-test.false)) c.loop-i.invariant.1
+pub returns-in-None : goal.returns-in-None
+returns-in-None c =
+    let a = c.args in
+    let none = none_there a.count a.numbers.now a.words.now c.requires.0 c.requires.1 a.number a.word
+    (IsFirst-from_position _ _ None (λ (n : ℕ). n ≡ a.number) (λ n. n ≡ a.number → ⊥) c.in-None.ensures.ran
+    (YieldsList-from_slice (take a.count a.numbers.now) cc) (λ x q k. search (rules, tests)) (λ x q k. search (rules, tests))) in
+    sought-last a.count a.numbers.now a.words.now c.requires.0 c.requires.1 a.number a.word a.count (omega arith) (omega arith) none

@@ -1,13 +1,9 @@
 -- `catalogues::listing::list` meets its contract.
 use native.Mathlib.Omega.{arith}
-use Prim.Native.Nat.{◌+◌, ◌-◌, ◌*◌, ◌≤◌}
+use Prim.Native.Nat.{◌-◌, ◌*◌}
 use mathlib.Core.Bool.{true}
-use mathlib.Core.Path.{◌≡◌, sym, ◌∙◌}
-use lib.ListN.{length}
-use borrow.Author.Tests.{not-true, not-false}
-use Rattle.fits_table.specs.Rows.{good_rows}
+use mathlib.Core.Path.{sym, ◌∙◌}
 use Rattle.catalogues.proofs.Listed.{none-listed, inside, row_wrong, pad_wrong, part-listed, least-is}
-use borrow.Author.Rules.{rules}
 use Rattle.catalogues.proofs.listing.list.Goals as goal
 
 pub returns-in_default : goal.returns-in_default
@@ -50,23 +46,23 @@ pub overflow_mul-part : goal.overflow_mul-part
 overflow_mul-part c = omega (arith, c.requires.0)
 
 pub overflow_sub-rows : goal.overflow_sub-rows
-overflow_sub-rows c = omega (arith, c.at_most-first.ensures)
+overflow_sub-rows c = omega (arith, c.min-first.ensures)
 
 pub put_lines-requires : goal.put_lines-requires
 put_lines-requires c =
     record {
       rows_bound = inside c.args.part c.args.given.now c.table_rows.ensures _ c.in-Rows.is;
       rows_value = sym c.rows_good.ensures ∙ c.if-not-rows_good.false;
-      count_bound = (omega (arith, c.at_most-count.ensures, c.at_most-first.ensures), omega (arith, c.at_most-count.ensures, c.requires.1));
+      count_bound = (omega (arith, c.min-count.ensures, c.min-first.ensures), omega (arith, c.min-count.ensures, c.requires.1));
     }
 
 pub returns : goal.returns
 returns c =
     let rows = c.in-Rows.rows in (
       rw (← part-listed c.args.part c.args.given.now c.table_rows.ensures rows c.in-Rows.is (sym c.rows_good.ensures ∙ c.if-not-rows_good.false)
-          (sym c.pad_zero.ensures ∙ c.if-not-pad_zero.false) c.at_most-first.result c.at_most-count.result
-          (least-is c.at_most-first.result (8192 * c.args.part) rows c.at_most-first.ensures.1.1.0 c.at_most-first.ensures.1.1.1)
-          (least-is c.at_most-count.result (rows - c.at_most-first.result) 8192 c.at_most-count.ensures.1.1.0 c.at_most-count.ensures.1.1.1))
+          (sym c.pad_zero.ensures ∙ c.if-not-pad_zero.false) c.min-first.result c.min-count.result
+          (least-is c.min-first.result (8192 * c.args.part) rows (λ h. omega arith) (λ h. omega arith))
+          (least-is c.min-count.result (rows - c.min-first.result) 8192 (λ h. omega arith) (λ h. omega arith)))
           c.put_lines.ensures.0,
-      omega (arith, c.put_lines.ensures.1, c.at_most-count.ensures),
+      omega (arith, c.put_lines.ensures.1, c.min-count.ensures),
     )

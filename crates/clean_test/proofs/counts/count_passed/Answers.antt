@@ -1,137 +1,62 @@
--- The pages from home and `from` up to the one before `next` are counted.
+-- The pages from home and `from` up to the one before `probed` are counted.
 use mathlib.Core.Path.{◌≡◌, sym, ap, ◌∙◌}
+use mathlib.Core.List.{List}
 use Prim.Native.Nat.{ℕ, ◌+◌, ◌-◌, ◌*◌, ◌%◌, ◌≤◌, ◌<◌}
 use native.Mathlib.Omega.{arith}
+use borrow.Author.Rules.{rules}
 use lib.ListN.{length, get_or}
+use Rattle.std.proofs.Common.{max}
+use Rattle.hashing.specs.declared.Geometry.{Geometry}
 use Rattle.generator.specs.Generator.{modulus, top_of_lem}
 use Rattle.generator.proofs.Powers.{lent_below}
 use Rattle.generator.proofs.Scrambling.{lent-signature}
 use Rattle.hashing.proofs.Bounds.{limits}
 use Rattle.placement.specs.Hash.{hash_of}
+use Rattle.placement.specs.Shape.{home_under}
+use Rattle.placement.specs.Ready.{Signers}
 use Rattle.clean_test.specs.Raising.{hash_under}
-use Rattle.clean_test.proofs.Counters.{ProbesCounted, probes-none, probes-counted, probes-skipped, probes-fits, probes-all}
-use Rattle.clean_test.proofs.counts.count_passed.Lts as lts
-use Rattle.clean_test.proofs.counts.count_passed.Tie as tie
-use Rattle.clean_test.proofs.counts.count_passed.Reads as reads
+use Rattle.clean_test.proofs.Counters.{probes-none, probes-counted, probes-skipped, probes-all}
 use Rattle.clean_test.proofs.counts.count_passed.Goals as goal
-use Rattle.clean_test.proofs.counts.count_passed.Goals.{Start}
-
-abbrev At-loop-next : Type 0
-At-loop-next = lts.At-loop tie.the-claims reads.Pre reads.Post goal.the-invariant-loop-next goal.the-decreases-loop-next tie.handed_clauses
-
-abbrev In-loop-next : Type 0
-In-loop-next = lts.In-loop tie.the-claims reads.Pre reads.Post goal.the-invariant-loop-next goal.the-decreases-loop-next tie.handed_clauses
-
-abbrev After-signature_by-signature : Type 0
-After-signature_by-signature = lts.After-signature_by tie.the-claims reads.Pre reads.Post goal.the-invariant-loop-next goal.the-decreases-loop-next tie.handed_clauses
-
-abbrev start : At-loop-next → Start
-start k = k.before.before.before.before
-
-pub later-next-requires : goal.later-next-requires
-later-next-requires c = tt
-
-pub loop-next-init : goal.loop-next-init
-unfolding hash_of
-loop-next-init c =
-    let p = c.requires in
-    let begin = c.later-next.ensures in (
-      begin.lower_bound.0,
-      (begin.lower_bound.1, probes-none _ _ _ _ _ _ _ _ p.home_value begin.lower_bound.1 begin.value p.counts.0),
-    )
-
-pub overflow_add-next : goal.overflow_add-next
-overflow_add-next c = omega arith
-
-pub overflow_sub-factor : goal.overflow_sub-factor
-overflow_sub-factor c = omega (arith, c.loop-next.invariant.1.0)
-
-pub overflow_mul-factor : goal.overflow_mul-factor
-overflow_mul-factor c = omega arith
-
-pub offset_bounds-table-next : goal.offset_bounds-table-next
-offset_bounds-table-next c = omega arith
-
--- the page's entry is one of the table
-entry : (c : In-loop-next) →
-    let a = (start c.before).args in
-    2 * (c.loop-next.next + 1 - a.home) < length a.table.now
-entry c = omega (arith, (start c.before).requires.home_in_bounds, c.loop-next.invariant.1.0)
-
-pub bounds-table-next : goal.bounds-table-next
-bounds-table-next c = entry c.before.before
-
-pub signature_by-signature-requires : goal.signature_by-signature-requires
-signature_by-signature-requires c =
-    let s = start c.before.before.before in
-    let l = limits s.args.geometry.parameters s.requires.signers.valid in
-    (lent_below s.args.geometry.parameters.multiplier _ s.requires.signers.table _ (entry c.before.before), (l.bits_least, l.bits_most))
+use Rattle.clean_test.proofs.counts.count_passed.Goals.{then-signature-separators, else-signature-separators}
 
 -- the code's signature is that of the rule
-signed : (c : After-signature_by-signature) →
-    let k = c.before.before.before in
-    let a = (start k).args in
-    (hash_under a.geometry).signature a.number k.loop-next.next ≡ c.signature_by-signature.result
+signed : (g : Geometry) (table : List ℕ) (number home probed signature : ℕ) → Signers g.parameters table → home ≡ home_under g number → home ≤ probed → 2 * (probed + 1 - home) < length table
+    → signature ≡ get_or table (2 * (probed + 1 - home)) 0 * number % modulus % top_of_lem g.parameters.bits → (hash_under g).signature number probed ≡ signature
 unfolding hash_of
-signed c =
-    let k = c.before.before.before in
-    let s = start k in
-    let a = s.args in
-    let m = a.geometry.parameters.multiplier in
-    let bits = a.geometry.parameters.bits in
-    let probe : k.loop-next.next + 1 - a.home ≡ k.loop-next.next - a.home + 1 = omega (arith, k.loop-next.invariant.1.0) in
-    let inside : 2 * (k.loop-next.next - a.home + 1) < length a.table.now = omega (arith, entry c.before.before, k.loop-next.invariant.1.0) in
-    rw (← s.requires.home_value)
+signed g table number home probed signature signers e low entry made =
+    let bits = g.parameters.bits in
+    let probe : probed + 1 - home ≡ probed - home + 1 = omega arith in
+    rw (← e)
     (sym
-    (c.signature_by-signature.ensures
-    ∙ ap (λ (t : ℕ). get_or a.table.now (2 * t) 0 * a.number % modulus % top_of_lem bits) probe
-    ∙ lent-signature m bits a.number (k.loop-next.next - a.home + 1) a.table.now s.requires.signers.table inside))
+    (made
+    ∙ ap (λ (t : ℕ). get_or table (2 * t) 0 * number % modulus % top_of_lem bits) probe
+    ∙ lent-signature g.parameters.multiplier bits number (probed - home + 1) table signers.table (omega arith)))
 
-pub bounds-separators-probed : goal.bounds-separators-probed
-bounds-separators-probed c = omega arith
+pub loop-probed-init : goal.loop-probed-init
+unfolding hash_of
+loop-probed-init c =
+    let p = c.requires in
+    let later : c.max-first.result ≡ max c.args.from c.args.home = search rules in
+    (omega arith, probes-none _ _ _ _ _ _ _ _ p.home_value (omega arith) (λ h. omega arith) p.counts.0)
 
-pub overflow_cast-separators : goal.overflow_cast-separators
-overflow_cast-separators c = omega (arith, c.type_inv.separators c.loop-next.next)
+pub signature_by-signature-requires : goal.signature_by-signature-requires
+unfolding hash_of
+signature_by-signature-requires c =
+    let s = c.requires.signers in
+    let l = limits c.args.geometry.parameters s.valid in
+    (lent_below c.args.geometry.parameters.multiplier _ s.table _ (omega (arith, c.requires.home_value, c.loop-probed.invariant.1.low)), (l.bits_least, l.bits_most))
 
-pub offset_bounds-counts-probed : goal.offset_bounds-counts-probed
-offset_bounds-counts-probed c = omega arith
-
-pub bounds-counts-probed : goal.bounds-counts-probed
-bounds-counts-probed c = omega arith
-
-pub overflow_add-counts : goal.overflow_add-counts
-overflow_add-counts c =
-    let k = c.before.before.before.before.before.before.before.before in
-    omega (arith, probes-fits _ _ _ _ _ _ _ _ k.loop-next.invariant.1.1 65535 (start k).requires.counts.1 k.loop-next.next k.loop-next.invariant.0 (omega arith))
-
-pub bounds-counts-probed-then-signature-separators : goal.bounds-counts-probed-then-signature-separators
-bounds-counts-probed-then-signature-separators c = omega arith
-
-pub loop-next-smaller-then-signature-separators : goal.loop-next-smaller-then-signature-separators
-loop-next-smaller-then-signature-separators c = omega arith
-
-pub loop-next-preserved-then-signature-separators : goal.loop-next-preserved-then-signature-separators
-loop-next-preserved-then-signature-separators c =
-    let k = c.before.before.before.before.before.before.before.before in (
-      omega (arith, k.loop-next.invariant.0),
-      (
-        omega (arith, k.loop-next.invariant.1.0),
-        probes-counted _ _ _ _ _ _ _ _ k.loop-next.invariant.1.1 (omega arith) (omega arith) (signed c.before.before.before.before.before ∙ c.if-signature-separators.true),
-      ),
-    )
-
-pub loop-next-smaller : goal.loop-next-smaller
-loop-next-smaller c = omega arith
-
-pub loop-next-preserved : goal.loop-next-preserved
-loop-next-preserved c =
-    let k = c.before.before.before.before.before.before in (
-      omega (arith, k.loop-next.invariant.0),
-      (
-        omega (arith, k.loop-next.invariant.1.0),
-        probes-skipped _ _ _ _ _ _ _ _ k.loop-next.invariant.1.1 (omega arith) (λ e. c.if-signature-separators.false (sym (signed c.before.before.before) ∙ e)),
-      ),
-    )
+pub loop-probed-preserved : goal.loop-probed-preserved
+unfolding hash_of
+loop-probed-preserved c =
+    let a = c.args in
+    let r = c.requires in
+    let done = c.loop-probed.invariant in
+    let tested = signed a.geometry a.table.now a.number a.home _ _ r.signers r.home_value (omega (arith, r.home_value, done.1.low)) (omega (arith, r.home_value, done.1.low)) c.signature_by-signature.ensures in
+    elim c.if-signature-separators.branch [
+      | then-signature-separators w ↦ (omega arith, rw w.counts-is (probes-counted _ _ _ _ _ _ _ _ done.1 (omega arith) (omega arith) (tested ∙ w.if-signature-separators.true)))
+      | else-signature-separators w ↦ (omega arith, rw w.counts-is (probes-skipped _ _ _ _ _ _ _ _ done.1 (omega arith) (λ e. w.if-signature-separators.false (sym tested ∙ e))))
+    ]
 
 pub returns : goal.returns
-returns c = probes-all _ _ _ _ _ _ _ _ c.loop-next.invariant.1.1 c.loop-next-test.false
+returns c = probes-all _ _ _ _ _ _ _ _ c.loop-probed.invariant.1 c.loop-probed-test.false

@@ -4,8 +4,6 @@ use mathlib.Core.Bool.{true≢false, false≢true}
 use Prim.Native.Nat.{ℕ, ◌+◌, ◌*◌, ◌≤◌, ◌<◌}
 use native.Mathlib.Nat.{suc-mul, mul-le-mul_right}
 use native.Mathlib.Omega.{arith}
-use borrow.Author.Rules.{rules}
-use borrow.Author.Tests.{not-true, not-false}
 use lib.ListN.{length}
 use Rattle.hashing.proofs.Bounds.{limits}
 use Rattle.placement.specs.Hash.{hash_of}
@@ -51,9 +49,6 @@ overflow_mul-first c = omega (arith, few c.before.before.before.before.before.be
 
 pub overflow_add-first : goal.overflow_add-first
 overflow_add-first c = omega (arith, few (start c.before))
-
-pub overflow_cast-page : goal.overflow_cast-page
-overflow_cast-page c = omega (arith, low-page (start c.before))
 
 pub count_below-requires : goal.count_below-requires
 count_below-requires c = record {

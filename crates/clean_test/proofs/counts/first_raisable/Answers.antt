@@ -1,6 +1,5 @@
 use mathlib.Core.Path.{◌∙◌}
 use native.Mathlib.Omega.{arith}
-use borrow.Author.Rules.{rules}
 use Rattle.hashing.proofs.Bounds.{limits}
 use Rattle.placement.proofs.Prepared.{first-signers}
 use Rattle.clean_test.proofs.Counters.{counted_none, rising-raisable}

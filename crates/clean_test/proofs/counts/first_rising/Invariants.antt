@@ -1,18 +1,11 @@
 -- No page passed over has a separator that could be one greater.
-use mathlib.Core.Path.{◌≡◌, sym, ap, ◌∙◌}
-use Prim.Native.Nat.{ℕ, ◌-◌, ◌<◌}
-use native.Mathlib.Omega.{arith}
-use native.Mathlib.Numerals.{add-one}
+use Prim.Native.Nat.{ℕ, ◌-◌}
 use lib.ListN.{get_or}
 use Rattle.generator.specs.Generator.{top_of_lem}
-use Rattle.hashing.proofs.Bounds.{limits}
-use Rattle.reach.proofs.Search.{Sought, sought-none, sought-next, sought-found, sought-all}
+use Rattle.reach.proofs.Search.{Sought}
 use Rattle.clean_test.specs.Raising.{may_rise}
 use Rattle.clean_test.proofs.counts.first_rising.Given as goal
 
 abbrev pub invariant-loop-page : goal.invariant-loop-page
 invariant-loop-page l =
     Sought (λ (p : ℕ). may_rise (top_of_lem l.parameters.bits) l.parameters.places (get_or l.separators p 0) (get_or l.counts p 0)) l.from (l.stop - l.from) l.page
-
-abbrev pub decreases-loop-page : goal.decreases-loop-page
-decreases-loop-page l = l.stop - l.page

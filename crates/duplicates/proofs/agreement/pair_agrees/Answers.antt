@@ -1,4 +1,3 @@
-use borrow.Author.Rules.{rules}
 use Rattle.duplicates.proofs.Firsts.{pair_apart, pair_words, pair_owners}
 use Rattle.duplicates.proofs.agreement.pair_agrees.Goals as goal
 

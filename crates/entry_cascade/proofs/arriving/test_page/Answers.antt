@@ -14,8 +14,8 @@ overflow_mul-page c =
     let l = limits _ c.requires.homing.valid in
     record { fits = omega (arith, inside, c.requires.separators_len.1, mul-le-mul l.pages_most l.places_most) }
 
-pub copy_32-requires : goal.copy_32-requires
-copy_32-requires c =
+pub copy-requires : goal.copy-requires
+copy-requires c =
     let inside : c.args.page * c.args.geometry.parameters.places + c.args.geometry.parameters.places ≤ length c.args.pool.now = page-fits _ _ _ c.requires.page_lt_pages c.requires.separators_len.1 in
     record {
       in_bounds = omega (arith, (limits _ c.requires.homing.valid).places_most, c.requires.homes_len);
@@ -25,7 +25,7 @@ copy_32-requires c =
 pub returns-then-page-tested : goal.returns-then-page-tested
 returns-then-page-tested c =
     let inside : c.args.page * c.args.geometry.parameters.places + c.args.geometry.parameters.places ≤ length c.args.pool.now = page-fits _ _ _ c.requires.page_lt_pages c.requires.separators_len.1 in
-    rw c.copy_32.ensures
+    rw c.copy.ensures
     (known-tested c.args.geometry c.args.separators.now c.args.page c.args.numbers.now c.args.words.now c.args.owners.now c.args.pool.now c.args.homes.now
     (c.requires.known_value c.if-page-tested.true) c.requires.homes_len (limits _ c.requires.homing.valid).places_most inside)
 

@@ -1,6 +1,6 @@
 -- Page after page as `Rolling` says.
 use mathlib.Core.Path.{◌≡◌, refl, ◌∙◌, subst}
-use Prim.Native.Nat.{ℕ, ◌-◌, ◌*◌, ◌≤◌, ◌<◌}
+use Prim.Native.Nat.{ℕ, ◌*◌, ◌≤◌, ◌<◌}
 use native.Mathlib.Nat.{le_refl}
 use native.Mathlib.Omega.{arith}
 use lib.ListN.{length, length-set}
@@ -141,17 +141,6 @@ returns-then-from-reach c =
     rolling_ends c.args.geometry.parameters c.args.geometry.growth (lent c.args.separators.now c.args.numbers.now c.args.words.now c.args.owners.now) c.args.number c.args.page e.ready.homing.valid e.ready.sized e.number e.unheld e.here
     c.loop-at.pool c.loop-at.planned c.loop-at.waiting c.loop-at.at c.loop-at.from c.loop-at.end rolls inside c.take_in.new.waiting c.in-Joined.reach (joins c.in-Joined.reach c.in-Joined.is) pool-long planned-long
     c.lower_page-from.new.pool c.lower_page-from.new.planned c.lower_page-from.new.waiting c.lower_page-from.result c.lower_page-from.ensures c.lower_page-from.auto.waiting c.if-from-reach.true
-
-pub overflow_add-at : goal.overflow_add-at
-overflow_add-at c =
-    let bounds : Limits c.args.geometry.parameters = limits c.args.geometry.parameters c.requires.enters.ready.homing.valid in
-    let inside : c.loop-at.at < c.args.geometry.parameters.pages = c.loop-at-test.true in
-    omega (arith, inside, bounds.pages_most)
-
-pub loop-at-smaller : goal.loop-at-smaller
-loop-at-smaller c =
-    let inside : c.loop-at.at < c.args.geometry.parameters.pages = c.loop-at-test.true in
-    omega (arith, inside)
 
 pub loop-at-preserved : goal.loop-at-preserved
 loop-at-preserved c =

@@ -1,6 +1,5 @@
 -- Page after page as `Rolling` says.
 use mathlib.Core.Path.{◌≡◌}
-use Prim.Native.Nat.{◌-◌}
 use lib.ListN.{length}
 use Rattle.placement.specs.Hash.{lent}
 use Rattle.entry_reach.specs.Entry.{KnownTo}
@@ -14,7 +13,3 @@ invariant-loop-at l =
     × ((length l.planned ≡ length l.initial.planned)
     × (KnownTo l.geometry.parameters l.geometry.growth (lent l.separators l.numbers l.words l.owners) l.pool l.at l.tested
     × Rolling l.geometry.parameters l.geometry.growth (lent l.separators l.numbers l.words l.owners) l.number l.page l.pool l.planned l.waiting l.at l.from l.end)))
-
-abbrev pub decreases-loop-at : goal.decreases-loop-at
-decreases-loop-at l =
-    l.geometry.parameters.pages - l.at

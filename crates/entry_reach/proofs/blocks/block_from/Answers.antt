@@ -1,4 +1,3 @@
-use borrow.Author.Rules.{rules}
 use Rattle.entry_reach.proofs.blocks.block_from.Goals as goal
 
 pub returns : goal.returns

@@ -5,7 +5,6 @@ use native.Mathlib.Nat.{mul-le-mul}
 use native.Mathlib.Omega.{arith}
 use lib.ListN.{length, take, set, length-set}
 use lib.Seq.{take-suc-set}
-use borrow.Author.Rules.{rules}
 use Rattle.pages.proofs.Numbers.{number-range}
 use Rattle.hashing.specs.Geometry.{multiplier_of}
 use Rattle.hashing.proofs.Bounds.{Limits, limits}

@@ -4,7 +4,6 @@ use native.Mathlib.Omega.{arith}
 use lib.Dec.{eqb}
 use Rattle.hashing.proofs.Bounds.{limits}
 use Rattle.pages.proofs.Parts.{part-item}
-use borrow.Author.Rules.{rules}
 use Rattle.entry_reach.proofs.newcomers.has_room.Goals as goal
 
 pub overflow_sub-end : goal.overflow_sub-end

@@ -3,7 +3,6 @@ use mathlib.Core.List.{List, ◌++◌}
 use Prim.Native.Nat.{ℕ}
 use native.Mathlib.Omega.{arith}
 use lib.ListN.{take}
-use borrow.Author.Rules.{rules}
 use Rattle.page_plan.specs.Gather.{stretch_words}
 use Rattle.entry_reach.proofs.PushLoop.{one-group}
 use Rattle.entry_reach.proofs.newcomers.join_page.Goals as goal

@@ -1,7 +1,6 @@
 use mathlib.Core.Path.{refl}
 use native.Mathlib.Omega.{arith}
 use lib.Seq.{slice}
-use borrow.Author.Rules.{rules}
 use Rattle.hashing.proofs.Bounds.{limits}
 use Rattle.page_separator.proofs.Cutting.{separator_most}
 use Rattle.entry_reach.proofs.Settled.{page-lowered}

@@ -5,7 +5,6 @@ use native.Mathlib.Nat.{mul-le-mul, mul-le-mul_right}
 use native.Mathlib.Omega.{arith}
 use lib.ListN.{length, take}
 use lib.Seq.{slice}
-use borrow.Author.Rules.{rules}
 use Rattle.hashing.proofs.Bounds.{Limits, limits}
 use Rattle.pages.proofs.Parts.{page-fits}
 use Rattle.placement.specs.File.{File}

@@ -17,7 +17,6 @@ use Rattle.entry_reach.specs.Entry.{entry_start, block_end}
 use Rattle.entry_reach.proofs.Surveyed.{bad_none, block-clear, extent-tested}
 use Rattle.entry_reach.proofs.Reached.{block-sound}
 use Rattle.entry_reach.proofs.Runs.{home-is, home-inside, run-low, run-high, run-unsound, run-ruled}
-use borrow.Author.Rules.{rules}
 use Rattle.entry_reach.proofs.run.decide_run.Lts as lts
 use Rattle.entry_reach.proofs.run.decide_run.Tie as tie
 use Rattle.entry_reach.proofs.run.decide_run.Reads as reads

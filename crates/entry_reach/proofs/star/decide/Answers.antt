@@ -7,7 +7,6 @@ use Rattle.entry_reach.specs.declared.blocks.Extent.{Extent}
 use Rattle.entry_reach.specs.Entry.{block_end}
 use Rattle.entry_reach.proofs.Surveyed.{end-found, last-low, extent-from}
 use Rattle.entry_reach.proofs.Runs.{home-is, home-inside}
-use borrow.Author.Rules.{rules}
 use Rattle.entry_reach.proofs.star.decide.Lts as lts
 use Rattle.entry_reach.proofs.star.decide.Tie as tie
 use Rattle.entry_reach.proofs.star.decide.Reads as reads

@@ -15,7 +15,6 @@ use Rattle.calls.specs.Shape.{stopped_file}
 use Rattle.decision.specs.declared.chosen.Decision.TheVariants.{Put}
 use Rattle.entry_reach.specs.Entry.{new_star_lem, entry_start, DecidesEntry}
 use Rattle.entry_reach.proofs.OnePage.{alone-decided}
-use borrow.Author.Rules.{rules}
 use Rattle.entry_reach.proofs.star.enter_star.Lts as lts
 use Rattle.entry_reach.proofs.star.enter_star.Tie as tie
 use Rattle.entry_reach.proofs.star.enter_star.Reads as reads

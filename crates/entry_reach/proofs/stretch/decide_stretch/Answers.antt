@@ -10,7 +10,6 @@ use Rattle.entry_reach.specs.declared.blocks.Reach.TheVariants.{Ends}
 use Rattle.entry_reach.specs.Entry.{new_star_lem, entry_start, reach_answer}
 use Rattle.entry_reach.proofs.Reached.{home-starts}
 use Rattle.entry_reach.proofs.Holding.{unsound-answer, overflows_answer, last-least, ends_decided}
-use borrow.Author.Rules.{rules}
 use Rattle.entry_reach.proofs.stretch.decide_stretch.Lts as lts
 use Rattle.entry_reach.proofs.stretch.decide_stretch.Tie as tie
 use Rattle.entry_reach.proofs.stretch.decide_stretch.Reads as reads

@@ -9,9 +9,9 @@ use Rattle.call_guard.proofs.Admitting.{prepared, tabled}
 use Rattle.fits.proofs.Output.{refused-first, well-admitted, unsound-first, rows-rise, sound-written}
 use Rattle.fits.proofs.putting.write_table.Goals as goal
 
-pub returns-in-Refused : goal.returns-in-Refused
+pub returns-in-Err : goal.returns-in-Err
 unfolding file_fits_lem
-returns-in-Refused c = record { leaves = refused-first c.args.parameters c.args.growth (lent c.args.separators.now c.args.numbers.now c.args.words.now c.args.owners.now) c.args.out.now c.admit.ensures c.file_fits-fits.ensures c.in-Refused.is }
+returns-in-Err c = record { leaves = refused-first c.args.parameters c.args.growth (lent c.args.separators.now c.args.numbers.now c.args.words.now c.args.owners.now) c.args.out.now c.admit.ensures c.file_fits-fits.ensures c.in-Err.is }
 
 pub first_multipliers-table-requires : goal.first_multipliers-table-requires
 unfolding file_fits_lem

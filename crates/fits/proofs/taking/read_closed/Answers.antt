@@ -14,9 +14,9 @@ use Rattle.fits.proofs.Input.{read-pool}
 use borrow.Author.Rules.{rules}
 use Rattle.fits.proofs.taking.read_closed.Goals as goal
 
-pub returns-in-Refused : goal.returns-in-Refused
+pub returns-in-Err : goal.returns-in-Err
 unfolding read_of placed file_fits_lem pool_fits_lem
-returns-in-Refused c = leaves _ _ _ _ _ (turned-away _ _ _ _ _ _ _ (refusal_is _ _ c.guard.ensures c.all_fit-fits.ensures c.in-Refused.is))
+returns-in-Err c = leaves _ _ _ _ _ (turned-away _ _ _ _ _ _ _ (refusal_is _ _ c.guard.ensures c.all_fit-fits.ensures c.in-Err.is))
 
 pub read_lent-answer-requires : goal.read_lent-answer-requires
 unfolding file_fits_lem pool_fits_lem

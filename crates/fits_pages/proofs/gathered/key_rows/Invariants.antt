@@ -1,4 +1,3 @@
--- `fits_pages::gathered::key_rows` meets its contract.
 use mathlib.Core.Path.{refl}
 use Prim.Native.Nat.{◌+◌, ◌≤◌, ◌-◌}
 use native.Mathlib.Omega.{arith}

@@ -1,88 +1,42 @@
--- `fits_pages::gathered::number_rows` meets its contract.
-use Prim.Native.Nat.{◌<◌, ◌-◌, ◌≤◌, ◌^◌}
-use mathlib.Core.Path.{◌∙◌, ap}
-use lib.ListN.{length, get_or, take}
-use lib.Seq.{length-take-le, get_or-take}
-use lib.Dec.{ltb}
-use native.Mathlib.Omega.{arith}
-use borrow.Author.Rules.{rules}
+use Rattle.std.proofs.Common.{ℕ, List, ◌≡◌, ◌<◌, ◌≤◌, ◌++◌, ◌^◌, ltb, map, take, drop, length, get_or, sym, ap, ◌∙◌, arith}
+use Rattle.std.proofs.Math.ListN.{length-map}
+use Rattle.std.proofs.Math.Nat.{zero-add}
+use Rattle.std.proofs.Math.Seq.{paste, length-take-le}
 use borrow.Author.Tests.{ltb-true}
-use Rattle.buffers.proofs.Copies.{none, done}
+use Rattle.buffers.proofs.Copies.{Copied, none}
+use Rattle.buffers.proofs.Lists.{map-take}
+use Rattle.buffers.proofs.Written.{pasted_whole}
 use Rattle.page_separator.specs.Words.{source_of}
 use Rattle.page_separator.proofs.Lists.{all_get_d}
 use Rattle.page_plan.specs.Sources.{numbered}
-use Rattle.page_plan.proofs.Numbered.{Numbering, still, numbering_next}
-use Rattle.fits_pages.specs.Columns.{numbers_read}
-use Rattle.fits_pages.proofs.gathered.number_rows.Lts as lts
-use Rattle.fits_pages.proofs.gathered.number_rows.Tie as tie
-use Rattle.fits_pages.proofs.gathered.number_rows.Reads as reads
+use Rattle.page_plan.proofs.Numbered.{still, numbering_next}
 use Rattle.fits_pages.proofs.gathered.number_rows.Goals as goal
-use Rattle.fits_pages.proofs.gathered.number_rows.Goals.{Start}
 
-abbrev At-loop-i : Type 0
-At-loop-i = lts.At-loop tie.the-claims reads.Pre reads.Post goal.the-invariant-loop-i goal.the-decreases-loop-i tie.handed_clauses
+-- the front items changed, as a part of the whole list
+front : (f : ℕ → ℕ) (l e : List ℕ) (i n : ℕ) → i ≡ length (take n l) → Copied (take n l) 0 (map f (take n l)) e i → e ++ drop n l ≡ paste l 0 (map f l) n
+front f l e i n all c =
+    let is : e ≡ take n (map f l) = c.is ∙ pasted_whole (take n l) (map f (take n l)) i (sym all) (length-map (take n l) f ∙ sym all) ∙ sym (map-take f n l) in
+    ap (λ (p : List ℕ). p ++ drop n l) is ∙ ap (λ (k : ℕ). take n (map f l) ++ drop k l) (sym (zero-add n))
 
-abbrev In-loop-i : Type 0
-In-loop-i = lts.In-loop tie.the-claims reads.Pre reads.Post goal.the-invariant-loop-i goal.the-decreases-loop-i tie.handed_clauses
+pub loop-word-init : goal.loop-word-init
+loop-word-init c = none _ _ _
 
-abbrev start : At-loop-i → Start
-start c = c.before.before.before
+pub overflow_add-word : goal.overflow_add-word
+overflow_add-word c =
+    let t = c.loop-word in
+    let l = take c.args.rows c.args.waiting.now in
+    let small : get_or t.word-items t.word-index 0 < 2 ^ 57
+    = rw (still _ _ _ _ c.loop-word-test.true t.invariant)
+    (ltb-true _ _ (all_get_d (λ x. ltb x (2 ^ 57)) l t.word-index c.requires.waiting_value c.loop-word-test.true)) in
+    record { fits = omega (arith, c.from.ensures, c.number_at-number.type_inv) }
 
-inside : (c : In-loop-i) → c.loop-i.i < length c.loop-i.waiting
-inside c = omega (arith, (start c.before).requires.rows_in_bounds, c.loop-i.invariant.1.kept)
-
--- the word that is read is as it came
-small : (c : In-loop-i) → get_or c.loop-i.waiting c.loop-i.i 0 < 2 ^ 57
-small c =
-    let s = start c.before in
-    let i = c.loop-i.i in
-    rw (still _ _ _ _ (omega (arith, s.requires.rows_in_bounds)) c.loop-i.invariant.1)
-    (ltb-true _ _
-    (rw (get_or-take s.args.rows s.args.waiting.now i 0 c.loop-i-test.true) at
-    (all_get_d (λ x. ltb x (2 ^ 57)) (take s.args.rows s.args.waiting.now) i s.requires.waiting_value
-    (omega (arith, length-take-le s.args.rows s.args.waiting.now s.requires.rows_in_bounds)))))
-
-pub loop-i-init : goal.loop-i-init
-loop-i-init c = (omega arith, none _ _ _)
-
-pub offset_bounds-waiting-i : goal.offset_bounds-waiting-i
-offset_bounds-waiting-i c = omega (arith, inside c.before)
-
-pub bounds-waiting-i : goal.bounds-waiting-i
-bounds-waiting-i c = inside c.before.before
-
-pub overflow_cast-word : goal.overflow_cast-word
-overflow_cast-word c = record { fits = omega arith }
-
-pub number_at-number-requires : goal.number_at-number-requires
-number_at-number-requires c = (start c.before.before.before).requires.rows_bound
-
-pub overflow_add-waiting : goal.overflow_add-waiting
-overflow_add-waiting c = record { fits = omega (arith, small c.before.before.before) }
-
-pub offset_bounds-waiting-i-in-loop-i : goal.offset_bounds-waiting-i-in-loop-i
-offset_bounds-waiting-i-in-loop-i c = omega (arith, inside c.before.before.before)
-
-pub bounds-waiting-i-in-loop-i : goal.bounds-waiting-i-in-loop-i
-bounds-waiting-i-in-loop-i c = inside c.before.before.before
-
-pub overflow_add-i : goal.overflow_add-i
-overflow_add-i c = omega (arith, inside c.before.before.before)
-
-pub loop-i-smaller : goal.loop-i-smaller
-loop-i-smaller c = omega arith
-
-pub loop-i-preserved : goal.loop-i-preserved
+pub loop-word-preserved : goal.loop-word-preserved
 unfolding numbered source_of
-loop-i-preserved c =
-    let k = c.before.before.before.before in (
-      omega arith,
-      numbering_next _ _ _ _ (omega (arith, (start k).requires.rows_in_bounds)) k.loop-i.invariant.1 _
-          (rw (c.number_at-number.ensures, still _ _ _ _ (omega (arith, (start k).requires.rows_in_bounds)) k.loop-i.invariant.1)),
-    )
-
-pub shape_of-waiting : goal.shape_of-waiting
-shape_of-waiting c = c.loop-i.invariant.1.kept
+loop-word-preserved c =
+    let t = c.loop-word in
+    numbering_next _ _ _ _ c.loop-word-test.true t.invariant _
+    (rw (c.from.ensures, c.number_at-number.ensures, still _ _ _ _ c.loop-word-test.true t.invariant))
 
 pub returns : goal.returns
-returns c = done (start c.before.before).args.rows (omega arith) (omega arith) c.loop-i.invariant.1
+returns c =
+    front (numbered _) c.args.waiting.now _ _ c.args.rows (omega arith) c.loop-word.invariant

@@ -30,11 +30,11 @@ returns-then-not-plan_rows c =
     let s = c in
     overfull _ s.args.given.now s.args.rows _ _ _ (rw c.if-not-plan_rows.true at d.plan_rows.ensures.plans_rows)
 
-pub slice_bounds-copy_8-end : goal.slice_bounds-copy_8-end
-slice_bounds-copy_8-end c = sym c.plan_rows.ensures.planned_len_2
+pub slice_bounds-copy-end : goal.slice_bounds-copy-end
+slice_bounds-copy-end c = sym c.plan_rows.ensures.planned_len_2
 
-pub copy_8-requires : goal.copy_8-requires
-copy_8-requires c =
+pub copy-requires : goal.copy-requires
+copy-requires c =
     let d = c in
     let s = c in
     let most = (limits s.args.geometry.parameters s.requires.ready.homing.valid).pages_most in
@@ -62,5 +62,5 @@ returns c =
     let same = d.plan_rows.auto.pool in
     let chosen = c in
     all-stored _ s.args.given.now s.args.rows _ _ _ (rw c.if-not-plan_rows.false at d.plan_rows.ensures.plans_rows) _ _ _ _
-    (c.copy_8.ensures ∙ pasted_front _ _ _ s.requires.ready.sized.of_separators) e.numbers_after e.words_after
+    (c.copy.ensures ∙ pasted_front _ _ _ s.requires.ready.sized.of_separators) e.numbers_after e.words_after
     (e.owners_after ∙ zeros-as_long (length s.args.owners.now) (length d.plan_rows.new.pool) (omega (arith, same, s.requires.pool_len.0, s.requires.ready.sized.of_owners)))

@@ -6,7 +6,6 @@ use mathlib.Core.List.{List, []}
 use Prim.Native.Nat.{◌<◌}
 use mathlib.Core.Path.{ap, ◌∙◌}
 use native.Mathlib.Omega.{arith}
-use borrow.Author.Rules.{rules}
 use Rattle.fits_table.proofs.cards.card_of.Goals as goal
 use Rattle.fits_table.proofs.cards.card_of.Goals.{After-slot_card}
 

@@ -1,6 +1,5 @@
 use Rattle.fits_table.specs.Header.{digit_step_lem}
 use borrow.Author.Tests.{lt-ltb, le-ltb}
-use borrow.Author.Rules.{rules}
 use Rattle.fits_table.proofs.cards.digit_step.Goals as goal
 
 pub returns-then-value-gt32768 : goal.returns-then-value-gt32768

@@ -1,5 +1,4 @@
 use Rattle.fits_table.proofs.Fields.{headers-steps}
-use borrow.Author.Rules.{rules}
 use Rattle.fits_table.proofs.cards.put_headers.Goals as goal
 
 pub returns : goal.returns

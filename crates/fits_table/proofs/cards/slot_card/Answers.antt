@@ -1,6 +1,5 @@
 use Rattle.fits_table.specs.Shape.{slot_card_lem}
 use borrow.Author.Tests.{lt-ltb, le-ltb}
-use borrow.Author.Rules.{rules}
 use Rattle.fits_table.proofs.cards.slot_card.Goals as goal
 
 pub returns-then-slot-lt5 : goal.returns-then-slot-lt5

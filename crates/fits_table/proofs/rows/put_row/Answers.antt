@@ -1,6 +1,5 @@
 use Rattle.fits_table.proofs.Signs.{row_steps}
 use Rattle.pages.proofs.Words.{valid-word}
-use borrow.Author.Rules.{rules}
 use Rattle.fits_table.proofs.rows.put_row.Goals as goal
 
 pub lowered-dec-requires : goal.lowered-dec-requires

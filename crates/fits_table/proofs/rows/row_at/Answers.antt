@@ -1,8 +1,6 @@
 use Rattle.fits_table.proofs.Signs.{row_low, row_number, row_ra, row_dec, row_good}
-use borrow.Author.Tests.{not-true, not-false}
 use mathlib.Core.Path.{sym, ◌∙◌}
 use native.Mathlib.Omega.{arith}
-use borrow.Author.Rules.{rules}
 use Rattle.fits_table.proofs.rows.row_at.Goals as goal
 
 pub returns-then-number-last : goal.returns-then-number-last

@@ -1,4 +1,4 @@
-use Prim.Native.Nat.{◌-◌, ◌≤◌}
+use Prim.Native.Nat.{◌-◌}
 use lib.ListN.{drop}
 use Rattle.hashing.specs.Geometry.{grown}
 use Rattle.buffers.proofs.Copies.{Copied}
@@ -7,7 +7,4 @@ use Rattle.growth_block.proofs.block.rehome_items.Given as goal
 
 abbrev pub invariant-loop-i : goal.invariant-loop-i
 invariant-loop-i l =
-    (l.i ≤ l.count) × Copied l.initial.homes l.first (drop l.first (homes_taken l.geometry.parameters (grown l.geometry.parameters l.geometry.growth) l.stop l.numbers)) l.homes l.i
-
-abbrev pub decreases-loop-i : goal.decreases-loop-i
-decreases-loop-i l = l.count - l.i
+    Copied l.initial.homes l.first (drop l.first (homes_taken l.geometry.parameters (grown l.geometry.parameters l.geometry.growth) l.stop l.numbers)) l.homes (l.i - l.first)

@@ -1,5 +1,5 @@
 use mathlib.Core.Path.{ap}
-use Prim.Native.Nat.{◌*◌, ◌-◌}
+use Prim.Native.Nat.{◌*◌}
 use native.Mathlib.Omega.{arith}
 use lib.ListN.{length-drop}
 use lib.Seq.{get_or-drop}
@@ -11,7 +11,7 @@ use Rattle.growth_in_place.proofs.moving.place_on.Goals as goal
 use Rattle.growth_in_place.proofs.moving.place_on.Goals.{then-there-eq0-via-then-there-eq0, then-there-eq0-via-else-there-eq0+then-number-there}
 
 pub loop-i-init : goal.loop-i-init
-loop-i-init c = (omega arith, passed_none _ _ _ (omega (arith, length-drop (c.args.page * c.args.places) c.args.numbers.now)))
+loop-i-init c = passed_none _ _ _ (omega (arith, length-drop (c.args.page * c.args.places) c.args.numbers.now))
 
 pub returns-then-there-eq0 : goal.returns-then-there-eq0
 unfolding part
@@ -19,7 +19,7 @@ returns-then-there-eq0 c =
     let ns = c.args.numbers.now in
     let i = c.loop-i.i in
     ap (λ (r : Place). r.at)
-    (passed-found c.loop-i.invariant.1 (omega arith)
+    (passed-found c.loop-i.invariant (omega arith)
     (rw (get_or-drop (c.args.page * c.args.places) ns i 0)
     (elim c.then-there-eq0.branch [
       | then-there-eq0-via-then-there-eq0 w ↦ rw (eq-eqb _ _ w.if-there-eq0.true)
@@ -29,12 +29,10 @@ returns-then-there-eq0 c =
 pub loop-i-preserved : goal.loop-i-preserved
 loop-i-preserved c =
     let ns = c.args.numbers.now in
-    let i = c.loop-i.i in (
-      omega arith,
-      passed-more c.loop-i.invariant.1 (omega arith)
-          (rw (get_or-drop (c.args.page * c.args.places) ns i 0, ne_eqb _ _ c.if-there-eq0.false, lt-leb _ _ c.if-number-there.false)),
-    )
+    let i = c.loop-i.i in
+    passed-more c.loop-i.invariant (omega arith)
+    (rw (get_or-drop (c.args.page * c.args.places) ns i 0, ne_eqb _ _ c.if-there-eq0.false, lt-leb _ _ c.if-number-there.false))
 
 pub returns : goal.returns
 unfolding part
-returns c = ap (λ (r : Place). r.at) (passed-all c.loop-i.invariant.1 (omega arith))
+returns c = ap (λ (r : Place). r.at) (passed-all c.loop-i.invariant (omega arith))

@@ -1,10 +1,7 @@
-use Prim.Native.Nat.{◌*◌, ◌-◌, ◌≤◌}
+use Prim.Native.Nat.{◌*◌}
 use lib.ListN.{drop}
 use Rattle.pages.proofs.Places.{Passed}
 use Rattle.growth_in_place.proofs.moving.place_on.Given as goal
 
 abbrev pub invariant-loop-i : goal.invariant-loop-i
-invariant-loop-i l = (l.i ≤ l.places) × Passed l.places l.number (drop (l.page * l.places) l.numbers) l.i
-
-abbrev pub decreases-loop-i : goal.decreases-loop-i
-decreases-loop-i l = l.places - l.i
+invariant-loop-i l = Passed l.places l.number (drop (l.page * l.places) l.numbers) l.i

@@ -1,4 +1,4 @@
-use Prim.Native.Nat.{◌*◌, ◌-◌, ◌≤◌}
+use Prim.Native.Nat.{◌*◌}
 use lib.ListN.{drop}
 use Rattle.hashing.specs.Geometry.{grown}
 use Rattle.placement.specs.Shape.{homes_of}
@@ -7,8 +7,4 @@ use Rattle.growth_in_place.proofs.stars.rehome_page.Given as goal
 
 abbrev pub invariant-loop-i : goal.invariant-loop-i
 invariant-loop-i l =
-    (l.i ≤ l.geometry.parameters.places)
-    × Copied l.initial.homes (l.page * l.geometry.parameters.places) (drop (l.page * l.geometry.parameters.places) (homes_of l.geometry.parameters (grown l.geometry.parameters l.geometry.growth) l.numbers)) l.homes l.i
-
-abbrev pub decreases-loop-i : goal.decreases-loop-i
-decreases-loop-i l = l.geometry.parameters.places - l.i
+    Copied l.initial.homes (l.page * l.geometry.parameters.places) (drop (l.page * l.geometry.parameters.places) (homes_of l.geometry.parameters (grown l.geometry.parameters l.geometry.growth) l.numbers)) l.homes l.i

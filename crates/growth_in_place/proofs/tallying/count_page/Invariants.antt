@@ -1,5 +1,5 @@
 use mathlib.Core.Path.{◌≡◌}
-use Prim.Native.Nat.{◌-◌, ◌≤◌}
+use Prim.Native.Nat.{◌≤◌}
 use lib.ListN.{take}
 use Rattle.pages.specs.Page.{part}
 use Rattle.growth_in_place.specs.Expansion.{joiners_in}
@@ -7,8 +7,4 @@ use Rattle.growth_in_place.proofs.tallying.count_page.Given as goal
 
 abbrev pub invariant-loop-i : goal.invariant-loop-i
 invariant-loop-i l =
-    (l.i ≤ l.geometry.parameters.places) × (l.count ≤ l.i)
-    × (l.count ≡ joiners_in l.geometry.parameters l.geometry.growth (take l.i (part l.geometry.parameters.places l.page l.numbers)))
-
-abbrev pub decreases-loop-i : goal.decreases-loop-i
-decreases-loop-i l = l.geometry.parameters.places - l.i
+    (l.count ≤ l.i) × (l.count ≡ joiners_in l.geometry.parameters l.geometry.growth (take l.i (part l.geometry.parameters.places l.page l.numbers)))

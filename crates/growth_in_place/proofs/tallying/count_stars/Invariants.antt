@@ -1,12 +1,8 @@
 use mathlib.Core.Path.{◌≡◌}
-use Prim.Native.Nat.{◌-◌, ◌≤◌}
 use Rattle.growth_in_place.specs.Expansion.{joiners_below, runs_to}
 use Rattle.growth_in_place.proofs.tallying.count_stars.Given as goal
 
 abbrev pub invariant-loop-page : goal.invariant-loop-page
 invariant-loop-page l =
-    (l.page ≤ l.added) × (l.total ≡ joiners_below l.geometry.parameters l.geometry.growth l.numbers l.page)
+    (l.total ≡ joiners_below l.geometry.parameters l.geometry.growth l.numbers l.page)
     × (l.runs ≡ runs_to l.geometry.parameters l.geometry.growth l.separators l.page)
-
-abbrev pub decreases-loop-page : goal.decreases-loop-page
-decreases-loop-page l = l.added - l.page

@@ -16,9 +16,3 @@ abbrev pub invariant-loop-i : goal.invariant-loop-i
 invariant-loop-i l =
     Ongoing l.parameters (lent_history l.kinds l.callers l.stars l.ras l.decs) l.initial.state (lent l.initial.separators l.initial.numbers l.initial.words l.initial.owners) (pooled l.initial.poolnumbers l.initial.poolwords l.initial.poolowners) l.initial.answers
     l.i l.state l.answers (lent l.separators l.numbers l.words l.owners) (pooled l.poolnumbers l.poolwords l.poolowners)
-    × SameLengths (lent l.initial.separators l.initial.numbers l.initial.words l.initial.owners) (pooled l.initial.poolnumbers l.initial.poolwords l.initial.poolowners) l.initial.answers
-    (lent l.separators l.numbers l.words l.owners) (pooled l.poolnumbers l.poolwords l.poolowners) l.answers
-
-abbrev pub decreases-loop-i : goal.decreases-loop-i
-decreases-loop-i l =
-    length l.kinds - l.i

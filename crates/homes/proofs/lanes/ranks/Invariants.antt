@@ -1,16 +1,10 @@
 -- `homes::lanes::ranks` meets its contract. The invariant: the first i places are filled.
 use mathlib.Core.Path.{◌≡◌}
 use mathlib.Core.List.{◌++◌}
-use Prim.Native.Nat.{ℕ, ◌-◌, ◌≤◌, ◌<◌}
-use native.Mathlib.Omega.{arith}
-use lib.ListN.{length, get_or, drop}
+use lib.ListN.{get_or, drop}
 use Rattle.hashing.specs.Geometry.{rank}
 use Rattle.homes.specs.Indexed.{lanes}
-use Rattle.homes.proofs.Lists.{lane-none, lane-next, lane-end}
 use Rattle.homes.proofs.lanes.ranks.Given as goal
 
 abbrev pub invariant-loop-i : goal.invariant-loop-i
-invariant-loop-i l = (l.i ≤ 8) × (l.orders ≡ lanes l.i (λ j. rank l.sweep.step l.stage.count (get_or l.groups j 0)) ++ drop l.i l.initial.orders)
-
-abbrev pub decreases-loop-i : goal.decreases-loop-i
-decreases-loop-i l = 8 - l.i
+invariant-loop-i l = l.orders ≡ lanes l.i (λ j. rank l.sweep.step l.stage.count (get_or l.groups j 0)) ++ drop l.i l.initial.orders

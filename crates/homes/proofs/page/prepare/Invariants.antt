@@ -1,15 +1,8 @@
 -- `homes::page::prepare` meets its contract. The invariant: the blocks below `at` are filled.
-use mathlib.Core.Path.{◌≡◌, ◌∙◌, refl, ap}
-use mathlib.Core.List.{List}
-use Prim.Native.Nat.{ℕ, ◌+◌, ◌-◌, ◌*◌, ◌%◌, ◌≤◌}
-use native.Mathlib.Nat.{not-suc-le-zero}
-use native.Mathlib.Omega.{arith}
-use lib.ListN.{length, get_or}
-use lib.Seq.{length-paste}
+use Rattle.std.proofs.Common.{◌≡◌, ◌-◌, ◌*◌, ◌%◌, ℕ, List, length, get_or}
 use Rattle.generator.specs.Generator.{modulus}
 use Rattle.homes.specs.Lanes.{block_at, Blocks, keys_at, KeysOf}
 use Rattle.homes.specs.Indexed.{lanes}
-use Rattle.homes.proofs.Lists.{lanes-length, blocks_more}
 use Rattle.homes.proofs.page.prepare.Given as goal
 
 -- the pages of a block before the first step
@@ -18,9 +11,10 @@ started factor span numbers at = lanes 8 (λ j. factor * get_or (keys_at numbers
 
 abbrev pub invariant-loop-at : goal.invariant-loop-at
 invariant-loop-at l =
-    ((l.at ≤ 32) × (l.at % 8 ≡ 0))
-    × (((length l.keys ≡ 32) × (length l.pages ≡ 32))
-    × (Blocks l.at (λ b. KeysOf l.numbers b (block_at l.keys b)) × Blocks l.at (λ b. block_at l.pages b ≡ started l.factor l.span l.numbers b)))
+    (l.at % 8 ≡ 0)
+    × ((length l.keys ≡ 32) × (length l.pages ≡ 32))
+    × Blocks l.at (λ b. KeysOf l.numbers b (block_at l.keys b))
+    × Blocks l.at (λ b. block_at l.pages b ≡ started l.factor l.span l.numbers b)
 
 abbrev pub decreases-loop-at : goal.decreases-loop-at
-decreases-loop-at l = 32 - l.at
+decreases-loop-at l = l.places - l.at

@@ -12,9 +12,9 @@ use Rattle.mending.proofs.Renewed.{mended_pool}
 use Rattle.mending.proofs.call.mend_at.Goals as goal
 
 -- what is known past the guard
-pub returns-in-Refused : goal.returns-in-Refused
+pub returns-in-Err : goal.returns-in-Err
 unfolding mend_of placed file_fits_lem pool_fits_lem
-returns-in-Refused c = leaves _ _ _ _ _ (turned-away _ _ _ _ _ _ _ (refusal_is _ _ c.guard.ensures c.all_fit-fits.ensures c.in-Refused.is))
+returns-in-Err c = leaves _ _ _ _ _ (turned-away _ _ _ _ _ _ _ (refusal_is _ _ c.guard.ensures c.all_fit-fits.ensures c.in-Err.is))
 
 pub mend_file-answer-requires : goal.mend_file-answer-requires
 unfolding file_fits_lem pool_fits_lem

@@ -1,4 +1,3 @@
-use Prim.Native.Nat.{◌-◌}
 use borrow.Author.Tests.{eq-eqb, ne_eqb}
 use Rattle.hashing.proofs.Bounds.{passed, failed}
 use Rattle.calls.specs.Mend.{valid_item}

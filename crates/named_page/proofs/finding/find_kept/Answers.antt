@@ -58,11 +58,11 @@ overflow_mul-page c =
     let e = c.before.before.before in
     omega (arith, inside e (start e).requires.pool_len, items-most _ (start e).requires.ready.homing.valid, (start e).requires.pool_len)
 
-pub slice_bounds-copy_32-end : goal.slice_bounds-copy_32-end
-slice_bounds-copy_32-end c = sym c.find-named.ensures.homed_as.long
+pub slice_bounds-copy-end : goal.slice_bounds-copy-end
+slice_bounds-copy-end c = sym c.find-named.ensures.homed_as.long
 
-pub copy_32-requires : goal.copy_32-requires
-copy_32-requires c =
+pub copy-requires : goal.copy-requires
+copy-requires c =
     let e = c.before.before.before.before in
     record {
       in_bounds = inside e (start e).requires.pool_len;
@@ -76,5 +76,5 @@ returns c =
     let found = e.find-named.ensures in
     record {
       named_as = found.named_as;
-      known = λ t. named-known _ _ _ _ _ found.named_as (opened e) _ _ _ found.homed_as s.requires.ready.sized s.requires.pool_len c.copy_32.ensures;
+      known = λ t. named-known _ _ _ _ _ found.named_as (opened e) _ _ _ found.homed_as s.requires.ready.sized s.requires.pool_len c.copy.ensures;
     }

@@ -1,5 +1,4 @@
 -- `own_stars::entering::enter_own` meets its contract.
-use Prim.Native.Nat.{◌-◌}
 use Rattle.placement.specs.Hash.{lent}
 use Rattle.own_stars.proofs.Placing.{Rolling}
 use Rattle.own_stars.proofs.entering.enter_own.Given as goal
@@ -7,6 +6,3 @@ use Rattle.own_stars.proofs.entering.enter_own.Given as goal
 abbrev pub invariant-loop-i : goal.invariant-loop-i
 invariant-loop-i l =
     Rolling l.geometry.parameters l.geometry.growth (lent l.initial.separators l.initial.numbers l.initial.words l.initial.owners) (lent l.separators l.numbers l.words l.owners) l.own l.pool l.waiting l.poolowners l.from l.i
-
-abbrev pub decreases-loop-i : goal.decreases-loop-i
-decreases-loop-i l = l.places - l.i

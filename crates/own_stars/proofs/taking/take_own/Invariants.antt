@@ -6,6 +6,3 @@ use Rattle.own_stars.proofs.taking.take_own.Given as goal
 abbrev pub invariant-loop-i : goal.invariant-loop-i
 invariant-loop-i l =
     Emptying l.geometry.parameters l.geometry.growth (lent l.initial.separators l.initial.numbers l.initial.words l.initial.owners) (lent l.separators l.numbers l.words l.owners) l.own l.pool l.waiting l.poolowners l.i
-
-abbrev pub decreases-loop-i : goal.decreases-loop-i
-decreases-loop-i l = l.i

@@ -3,7 +3,6 @@ use native.Mathlib.Omega.{arith}
 use lib.Seq.{slice}
 use Rattle.hashing.proofs.Bounds.{limits}
 use Rattle.page_plan.proofs.Stretch.{page-planned, separator_byte}
-use borrow.Author.Rules.{rules}
 use Rattle.page_plan.proofs.layout.settle_page.Goals as goal
 
 pub settle-settled-requires : goal.settle-settled-requires

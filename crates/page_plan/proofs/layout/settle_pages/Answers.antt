@@ -6,7 +6,6 @@ use Rattle.page_plan.specs.Plans.{Settling}
 use Rattle.page_plan.proofs.Stretch.{settling-none}
 use Rattle.page_plan.proofs.AllPages.{stretch-settled}
 use lib.Seq.{slice}
-use borrow.Author.Rules.{rules}
 use Rattle.page_plan.proofs.layout.settle_pages.Lts as lts
 use Rattle.page_plan.proofs.layout.settle_pages.Tie as tie
 use Rattle.page_plan.proofs.layout.settle_pages.Reads as reads

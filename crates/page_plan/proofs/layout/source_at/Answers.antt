@@ -1,4 +1,3 @@
-use borrow.Author.Rules.{rules}
 use borrow.Author.Tests.{le-leb, lt-leb}
 use Rattle.page_separator.specs.Words.{source_of}
 use Rattle.page_plan.specs.Plans.{slot_source}

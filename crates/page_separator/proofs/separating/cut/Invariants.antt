@@ -1,10 +1,7 @@
 -- What is left is counted below v, and there is no room for what is counted up to v. Assumes nothing.
-use Prim.Native.Nat.{◌+◌, ◌≤◌, ◌<◌, ◌-◌}
+use Prim.Native.Nat.{◌+◌, ◌≤◌, ◌<◌}
 use mathlib.Core.Path.{◌≡◌}
-use native.Mathlib.Omega.{arith}
-use lib.ListN.{get_or}
 use Rattle.page_separator.specs.Lists.{sum_to}
-use Rattle.page_separator.proofs.Counting.{sum-last, sum_mono, sum-some}
 use Rattle.page_separator.proofs.separating.cut.Given as goal
 
 abbrev pub invariant-loop-below : goal.invariant-loop-below

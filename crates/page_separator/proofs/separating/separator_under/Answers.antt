@@ -4,7 +4,6 @@ use mathlib.Core.Path.{◌≡◌, refl, sym, ◌∙◌}
 use mathlib.Core.List.{List}
 use lib.ListN.{length, get_or-replicate}
 use lib.Seq.{slice, length-slice}
-use borrow.Author.Rules.{rules}
 use native.Mathlib.Omega.{arith}
 use Rattle.generator.specs.Generator.{top_of_lem}
 use Rattle.hashing.proofs.Bounds.{Limits, limits}

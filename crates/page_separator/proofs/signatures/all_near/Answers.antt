@@ -1,53 +1,14 @@
--- The words before i are homed at page − 43 or above. Assumes nothing.
-use mathlib.Core.Bool.{false≢true}
-use Prim.Native.Nat.{ℕ, ◌-◌, ◌≤◌, ◌<◌}
-use native.Mathlib.Omega.{arith}
-use lib.ListN.{get_or}
+-- The words are homed at page − 43 or above.
+use Rattle.std.proofs.Common.{◌≡◌, ◌-◌, ◌≤◌, length, get_or, arith, rules}
+use Rattle.std.specs.Prelude.{EachIndex, IsTrue, ◌↔◌, slice_index}
+use Rattle.std.proofs.lemmas.Grind.{common_steps}
 use Rattle.page_separator.proofs.Packing.{home-least}
-use Rattle.page_separator.proofs.Lists.{least-next}
 use Rattle.page_separator.proofs.signatures.all_near.Goals as goal
 
-pub returns-then-page-lt44 : goal.returns-then-page-lt44
-returns-then-page-lt44 c = λ e i f h. omega arith
-
-pub overflow_sub-page : goal.overflow_sub-page
-overflow_sub-page c = omega arith
-
-pub overflow_cast-page : goal.overflow_cast-page
-overflow_cast-page c = omega (arith, c.requires.page)
-
-pub pack-least-requires : goal.pack-least-requires
-pack-least-requires c = record {
-  home_bound = omega (arith, c.requires.page);
-  number_bound = omega arith;
-  source_bound = omega arith;
-}
-
-pub loop-i-init : goal.loop-i-init
-loop-i-init c = (omega arith, (c.requires.order, λ j f h. omega arith))
-
-pub offset_bounds-waiting-i : goal.offset_bounds-waiting-i
-offset_bounds-waiting-i c = omega arith
-
-pub bounds-waiting-i : goal.bounds-waiting-i
-bounds-waiting-i c = omega (arith, c.requires.inside)
-
-pub returns-then-waiting-i : goal.returns-then-waiting-i
-returns-then-waiting-i c = λ e. absurd (false≢true e)
-
-pub overflow_add-i : goal.overflow_add-i
-overflow_add-i c = omega arith
-
-pub loop-i-smaller : goal.loop-i-smaller
-loop-i-smaller c = omega arith
-
-pub loop-i-preserved : goal.loop-i-preserved
-loop-i-preserved c =
-    let loop = c.loop-i in
-    (omega (arith, loop.invariant.0), (omega arith, least-next _ _ _ _ loop.invariant.1.1 c.if-waiting-i.false))
-
 pub returns : goal.returns
-returns c =
-    let s = c.before.before.before.before.before.before in
-    let least = c.pack-least.ensures in
-    λ e i f h. omega (arith, home-least (s.args.page - 43) (get_or s.args.waiting.now i 0) (omega (arith, least, c.loop-i.invariant.1.1 i f (omega arith))))
+returns c = λ e i f h.
+    let each : IsTrue c.all.result ↔ EachIndex c.iter.result.rest.now (λ k. c.pack-least.result ≤ slice_index c.iter.result.rest.now k) = search rules in
+    let size : length c.iter.result.rest.now ≡ c.args.reach - c.args.from = grind (arith, common_steps) in
+    let item : get_or c.iter.result.rest.now (i - c.args.from) 0 ≡ get_or c.args.waiting.now i 0 = grind (arith, common_steps) in
+    let least : c.pack-least.result ≤ get_or c.iter.result.rest.now (i - c.args.from) 0 = each.0 e (i - c.args.from) (omega arith) in
+    omega (arith, home-least (c.args.page - 43) (get_or c.args.waiting.now i 0) (omega arith))

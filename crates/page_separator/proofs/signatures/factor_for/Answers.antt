@@ -2,7 +2,6 @@
 use mathlib.Core.Path.{ap, sym, ◌∙◌}
 use Prim.Native.Nat.{ℕ, ◌+◌, ◌-◌, ◌*◌, ◌<◌}
 use lib.ListN.{length}
-use borrow.Author.Rules.{rules}
 use Rattle.hashing.specs.Geometry.{multiplier_of}
 use Rattle.generator.proofs.Powers.{lent-entry}
 use Rattle.page_separator.specs.Probes.{factor_of}

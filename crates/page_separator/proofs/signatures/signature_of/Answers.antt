@@ -1,6 +1,5 @@
 use mathlib.Core.Path.{◌∙◌, ap}
 use Prim.Native.Nat.{ℕ, ◌+◌, ◌-◌, ◌*◌, ◌%◌}
-use borrow.Author.Rules.{rules}
 use Rattle.generator.specs.Generator.{modulus, top_of_lem}
 use Rattle.hashing.proofs.Bounds.{limits}
 use Rattle.page_separator.specs.Words.{home_of}

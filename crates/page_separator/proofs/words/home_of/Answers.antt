@@ -1,4 +1,3 @@
-use borrow.Author.Rules.{rules}
 use native.Mathlib.Omega.{arith}
 use Rattle.page_separator.specs.Words.{home_of}
 use Rattle.page_separator.proofs.words.home_of.Goals as goal

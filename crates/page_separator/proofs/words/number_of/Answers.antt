@@ -1,4 +1,3 @@
-use borrow.Author.Rules.{rules}
 use native.Mathlib.Omega.{arith}
 use Rattle.page_separator.specs.Words.{number_in}
 use Rattle.page_separator.proofs.words.number_of.Goals as goal

@@ -1,4 +1,3 @@
-use borrow.Author.Rules.{rules}
 use native.Mathlib.Omega.{arith}
 use Rattle.page_separator.specs.Words.{pack}
 use Rattle.page_separator.proofs.words.pack.Goals as goal

@@ -13,7 +13,7 @@ returns-then-all c =
     let a = s.args in
     let p = c.store_pages-all.ensures in
     let w = written a.lo (take a.count (drop a.lo a.planned.now)) a.separators.now in
-    let copied = c.copy_8.ensures ∙ paste_written a.separators.now a.lo (drop a.lo a.planned.now) a.count (rw (length-drop a.lo a.planned.now) (omega (arith, s.requires))) in
+    let copied = c.copy.ensures ∙ paste_written a.separators.now a.lo (drop a.lo a.planned.now) a.count (rw (length-drop a.lo a.planned.now) (omega (arith, s.requires))) in
     record {
       value = p.value;
       separators_after = separators-written w a.separators.now p.value c.if-all.true copied;

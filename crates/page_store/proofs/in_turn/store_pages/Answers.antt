@@ -22,15 +22,6 @@ page_differs-requires c = record {
   places_in_bounds_3 = (storing_fits c.loop-turn.invariant c.page_in_turn-page.result c.page_in_turn-page.ensures c.loop-turn-test.true).1.1;
 }
 
-pub shape_of-numbers-then-stored-limit : goal.shape_of-numbers-then-stored-limit
-shape_of-numbers-then-stored-limit c = c.loop-turn.invariant.numbers.reached.kept
-
-pub shape_of-words-then-stored-limit : goal.shape_of-words-then-stored-limit
-shape_of-words-then-stored-limit c = c.loop-turn.invariant.words.reached.kept
-
-pub shape_of-owners-then-stored-limit : goal.shape_of-owners-then-stored-limit
-shape_of-owners-then-stored-limit c = c.loop-turn.invariant.owners.reached.kept
-
 pub returns-then-stored-limit : goal.returns-then-stored-limit
 returns-then-stored-limit c =
     let m = c.loop-turn.invariant in
@@ -54,12 +45,6 @@ store_page-requires c = record {
 pub overflow_add-stored : goal.overflow_add-stored
 overflow_add-stored c = omega (arith, c.ranges.limit)
 
-pub overflow_add-turn : goal.overflow_add-turn
-overflow_add-turn c = omega arith
-
-pub loop-turn-smaller : goal.loop-turn-smaller
-loop-turn-smaller c = omega arith
-
 pub loop-turn-preserved : goal.loop-turn-preserved
 loop-turn-preserved c =
     let m = c.loop-turn.invariant in
@@ -74,15 +59,6 @@ loop-turn-preserved c =
           (w.numbers-is ∙ w.store_page.ensures.numbers_after) (w.words-is ∙ w.store_page.ensures.words_after) (w.owners-is ∙ w.store_page.ensures.owners_after))
       | else-page_differs w ↦ rw (w.numbers-is, w.words-is, w.owners-is, w.stored-is) (storing_skip m h (t ∙ w.if-page_differs.false))
     ]
-
-pub shape_of-numbers : goal.shape_of-numbers
-shape_of-numbers c = c.loop-turn.invariant.numbers.reached.kept
-
-pub shape_of-words : goal.shape_of-words
-shape_of-words c = c.loop-turn.invariant.words.reached.kept
-
-pub shape_of-owners : goal.shape_of-owners
-shape_of-owners c = c.loop-turn.invariant.owners.reached.kept
 
 pub returns : goal.returns
 returns c =

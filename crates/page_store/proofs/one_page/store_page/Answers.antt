@@ -8,7 +8,7 @@ pub returns : goal.returns
 returns c =
     let s = c in
     let a = s.args in record {
-      numbers_after = c.copy_32.ensures ∙ page-copied a.places a.page a.poolnumbers.now a.numbers.now (omega (arith, s.requires));
-      words_after = c.copy_64.ensures ∙ page-copied a.places a.page a.poolwords.now a.words.now (omega (arith, s.requires));
-      owners_after = c.copy_8.ensures ∙ page-copied a.places a.page a.poolowners.now a.owners.now (omega (arith, s.requires));
+      numbers_after = c.copy.ensures ∙ page-copied a.places a.page a.poolnumbers.now a.numbers.now (omega (arith, s.requires));
+      words_after = c.copy-2.ensures ∙ page-copied a.places a.page a.poolwords.now a.words.now (omega (arith, s.requires));
+      owners_after = c.copy-3.ensures ∙ page-copied a.places a.page a.poolowners.now a.owners.now (omega (arith, s.requires));
     }

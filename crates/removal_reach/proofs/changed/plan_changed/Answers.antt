@@ -14,7 +14,6 @@ use Rattle.page_plan.proofs.Items.{words_count}
 use Rattle.page_plan.proofs.Sourcing.{length-stretch}
 use Rattle.page_plan.proofs.Stretch.{started, ends_last, stands, started-again}
 use Rattle.removal_reach.proofs.Counted.{changed-again}
-use borrow.Author.Rules.{rules}
 use Rattle.removal_reach.proofs.changed.plan_changed.Lts as lts
 use Rattle.removal_reach.proofs.changed.plan_changed.Tie as tie
 use Rattle.removal_reach.proofs.changed.plan_changed.Reads as reads

@@ -3,7 +3,6 @@ use native.Mathlib.Omega.{arith}
 use lib.Seq.{slice}
 use Rattle.hashing.proofs.Bounds.{limits}
 use Rattle.page_plan.proofs.Stretch.{page-planned, separator_byte}
-use borrow.Author.Rules.{rules}
 use Rattle.removal_reach.proofs.changed.plan_page.Goals as goal
 
 pub settle_alone-settled-requires : goal.settle_alone-settled-requires

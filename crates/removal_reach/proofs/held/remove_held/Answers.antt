@@ -13,7 +13,6 @@ use Rattle.decision.specs.declared.chosen.Decision.TheVariants.{Take}
 use Rattle.removal_reach.specs.Removal.{removal_start, DecidesRemoval}
 use Rattle.removal_reach.proofs.Removing.{star-home, star-inside}
 use Rattle.removal_reach.proofs.OnePage.{taken-decided}
-use borrow.Author.Rules.{rules}
 use Rattle.removal_reach.proofs.held.remove_held.Lts as lts
 use Rattle.removal_reach.proofs.held.remove_held.Tie as tie
 use Rattle.removal_reach.proofs.held.remove_held.Reads as reads

@@ -10,7 +10,6 @@ use Rattle.page_separator.specs.Lists.{all}
 use Rattle.removal_reach.specs.Stretch.{StretchReady}
 use Rattle.removal_reach.proofs.Ruled.{stars-fit}
 use Rattle.removal_reach.proofs.Removing.{Reached, star-reached, removal_refused, removal_plannable, rest-kept, rest-ruled, removal_decided}
-use borrow.Author.Rules.{rules}
 use Rattle.removal_reach.proofs.removal.decide_long.Lts as lts
 use Rattle.removal_reach.proofs.removal.decide_long.Tie as tie
 use Rattle.removal_reach.proofs.removal.decide_long.Reads as reads

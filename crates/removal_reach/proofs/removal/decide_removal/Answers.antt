@@ -4,7 +4,6 @@ use Rattle.placement.specs.File.{File}
 use Rattle.placement.specs.Hash.{hash_of, lent}
 use Rattle.reach.specs.Reach.{removal_end}
 use Rattle.removal_reach.proofs.Removing.{end_is, star-inside, star-reached}
-use borrow.Author.Rules.{rules}
 use Rattle.removal_reach.proofs.removal.decide_removal.Lts as lts
 use Rattle.removal_reach.proofs.removal.decide_removal.Tie as tie
 use Rattle.removal_reach.proofs.removal.decide_removal.Reads as reads

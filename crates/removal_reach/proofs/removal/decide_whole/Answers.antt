@@ -9,7 +9,6 @@ use Rattle.removal_reach.specs.Stretch.{StretchReady}
 use Rattle.removal_reach.proofs.Ruled.{stars-fit}
 use Rattle.removal_reach.proofs.Counted.{whole-changed}
 use Rattle.removal_reach.proofs.Removing.{Reached, star-reached, removal_refused, removal_plannable, removal_decided}
-use borrow.Author.Rules.{rules}
 use Rattle.removal_reach.proofs.removal.decide_whole.Lts as lts
 use Rattle.removal_reach.proofs.removal.decide_whole.Tie as tie
 use Rattle.removal_reach.proofs.removal.decide_whole.Reads as reads

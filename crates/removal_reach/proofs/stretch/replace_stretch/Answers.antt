@@ -1,5 +1,4 @@
 use mathlib.Core.Path.{refl, ◌∙◌}
-use borrow.Author.Rules.{rules}
 use Rattle.page_separator.specs.Lists.{all}
 use Rattle.removal_reach.proofs.Ruled.{stars-fit, stretch-kept, stretch-behind, stretch-placed, applied-lists}
 use Rattle.removal_reach.proofs.stretch.replace_stretch.Lts as lts

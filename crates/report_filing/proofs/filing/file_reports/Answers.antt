@@ -16,20 +16,10 @@ pub loop-filed-init : goal.loop-filed-init
 loop-filed-init c = record {
   long = search rules;
   most = c.requires.count_bound;
-  upto = omega arith;
   ordered = ordered-none _ _ _ _ _;
   sized = c.requires.admitted.sized;
   pooled = c.requires.pooled;
 }
-
-pub overflow_cast-report : goal.overflow_cast-report
-overflow_cast-report c = omega (arith, c.loop-filed-test.true, c.loop-filed.invariant.most)
-
-pub offset_bounds-reports-filed : goal.offset_bounds-reports-filed
-offset_bounds-reports-filed c = omega (arith, c.loop-filed-test.true, c.loop-filed.invariant.most)
-
-pub bounds-reports-filed : goal.bounds-reports-filed
-bounds-reports-filed c = omega (arith, c.loop-filed-test.true, c.loop-filed.invariant.most)
 
 pub file_report-answer-requires : goal.file_report-answer-requires
 file_report-answer-requires c =
@@ -45,12 +35,6 @@ returns-in-Refused c =
     ordered-stop c.args.geometry.parameters (closed_record c.args.geometry.growth) pool _ _ _ _ _ _ c.loop-filed.invariant c.loop-filed-test.true _ _ _ _ _ c.in-Refused.is
     (c.file_report-answer.ensures pool (cleared-pool c.requires.pooled))
 
-pub overflow_add-filed : goal.overflow_add-filed
-overflow_add-filed c = omega (arith, c.loop-filed-test.true, c.loop-filed.invariant.most)
-
-pub loop-filed-smaller : goal.loop-filed-smaller
-loop-filed-smaller c = omega (arith, c.loop-filed-test.true)
-
 pub loop-filed-preserved : goal.loop-filed-preserved
 loop-filed-preserved c =
     let pool = cleared (pooled c.args.poolnumbers.now c.args.poolwords.now c.args.poolowners.now) in
@@ -59,7 +43,6 @@ loop-filed-preserved c =
     record {
       long = inv.long;
       most = inv.most;
-      upto = omega (arith, c.loop-filed-test.true);
       ordered = ordered-more c.args.geometry.parameters (closed_record c.args.geometry.growth) pool _ _ _ _ _ _ inv c.loop-filed-test.true _ _ _ _ _ c.in_default.is (called.ensures pool (cleared-pool c.requires.pooled));
       sized =
           record {
@@ -79,4 +62,4 @@ loop-filed-preserved c =
 pub returns : goal.returns
 returns c =
     let pool = cleared (pooled c.args.poolnumbers.now c.args.poolwords.now c.args.poolowners.now) in
-    ordered-all c.args.geometry.parameters (closed_record c.args.geometry.growth) pool _ _ _ _ _ _ c.loop-filed.invariant c.loop-filed-test.false
+    ordered-all c.args.geometry.parameters (closed_record c.args.geometry.growth) pool _ _ _ _ _ _ c.loop-filed.invariant c.loop-filed-test.false (omega arith)

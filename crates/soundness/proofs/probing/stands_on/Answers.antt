@@ -3,7 +3,6 @@
 use mathlib.Core.Path.{sym}
 use Prim.Native.Nat.{◌≤◌}
 use native.Mathlib.Omega.{arith}
-use borrow.Author.Rules.{rules}
 use Rattle.hashing.proofs.Bounds.{limits}
 use Rattle.soundness.proofs.Probed.{none_first, named_here, named-before-top, named-above}
 use Rattle.soundness.proofs.probing.stands_on.Goals as goal

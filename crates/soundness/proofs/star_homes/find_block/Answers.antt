@@ -2,7 +2,6 @@
 use mathlib.Core.Path.{refl, ◌∙◌}
 use native.Mathlib.Omega.{arith}
 use lib.ListN.{drop, length-drop}
-use borrow.Author.Rules.{rules}
 use Rattle.soundness.proofs.Stars.{items-homed}
 use Rattle.soundness.proofs.star_homes.find_block.Goals as goal
 

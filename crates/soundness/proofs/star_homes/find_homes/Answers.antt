@@ -1,10 +1,9 @@
 -- `soundness::star_homes::find_homes` meets its contract.
 use mathlib.Core.Path.{◌≡◌, refl, ap, ◌∙◌}
-use Prim.Native.Nat.{ℕ, ◌+◌, ◌-◌, ◌≤◌}
+use Prim.Native.Nat.{ℕ, ◌+◌, ◌≤◌}
 use native.Mathlib.Omega.{arith}
-use lib.ListN.{length, drop}
+use lib.ListN.{drop}
 use lib.Seq.{paste, paste-zero}
-use borrow.Author.Rules.{rules}
 use Rattle.placement.specs.Shape.{homes_of}
 use Rattle.soundness.proofs.Pastes.{homes-next}
 use Rattle.soundness.proofs.star_homes.find_homes.Lts as lts

@@ -1,12 +1,9 @@
 -- `soundness::star_homes::find_homes` meets its contract.
-use mathlib.Core.Path.{◌≡◌, refl, ap, ◌∙◌}
-use Prim.Native.Nat.{ℕ, ◌+◌, ◌-◌, ◌≤◌}
-use native.Mathlib.Omega.{arith}
+use mathlib.Core.Path.{◌≡◌}
+use Prim.Native.Nat.{◌-◌, ◌≤◌}
 use lib.ListN.{length, drop}
-use lib.Seq.{paste, paste-zero}
-use borrow.Author.Rules.{rules}
+use lib.Seq.{paste}
 use Rattle.placement.specs.Shape.{homes_of}
-use Rattle.soundness.proofs.Pastes.{homes-next}
 use Rattle.soundness.proofs.star_homes.find_homes.Given as goal
 
 -- the first i items have their homes

@@ -1,15 +1,9 @@
 -- `soundness::stretches::count_far` meets its contract. The invariant: if none of the first i is counted, none is homed below `low`.
 use mathlib.Core.Path.{◌≡◌}
-use Prim.Native.Nat.{ℕ, ◌+◌, ◌-◌, ◌≤◌, ◌<◌}
+use Prim.Native.Nat.{ℕ, ◌+◌, ◌≤◌, ◌<◌}
 use lib.ListN.{get_or}
-use native.Mathlib.Omega.{arith}
-use borrow.Author.Rules.{rules}
-use Rattle.soundness.proofs.Items.{far-next}
 use Rattle.soundness.proofs.stretches.count_far.Given as goal
 
 abbrev pub invariant-loop-i : goal.invariant-loop-i
 invariant-loop-i l =
-    (l.i ≤ l.places) × ((l.far ≤ l.i) × (l.far ≡ 0 → (j : ℕ) → j < l.i → (get_or l.numbers (l.at + j) 0 ≡ 0 → ⊥) → l.low ≤ get_or l.homes (l.to + j) 0))
-
-abbrev pub decreases-loop-i : goal.decreases-loop-i
-decreases-loop-i l = l.places - l.i
+    (l.far ≤ l.i) × (l.far ≡ 0 → (j : ℕ) → j < l.i → (get_or l.numbers (l.at + j) 0 ≡ 0 → ⊥) → l.low ≤ get_or l.homes (l.to + j) 0)

@@ -2,7 +2,6 @@
 -- Assumes nothing.
 use mathlib.Core.Path.{sym, ◌∙◌, ap}
 use mathlib.Core.Bool.{false≢true, not}
-use borrow.Author.Rules.{rules}
 use borrow.Author.Tests.{eq-eqb, ne_eqb}
 use Rattle.hashing.proofs.Bounds.{failed, passed}
 use Rattle.soundness.proofs.Items.{in_order, empty-item, refused-item, passed-item}

@@ -9,13 +9,13 @@ use Rattle.starfile.specs.Steps.{step_admitted}
 use Rattle.starfile.proofs.Steps.{step-turned, step-passed, step-lent, step-done, step-pool}
 use Rattle.starfile.proofs.advancing.step_growth.Goals as goal
 
-pub returns-in-Refused : goal.returns-in-Refused
+pub returns-in-Err : goal.returns-in-Err
 unfolding step_under file_fits_lem pool_fits_lem
-returns-in-Refused c =
+returns-in-Err c =
     let f = lent c.args.separators.now c.args.numbers.now c.args.words.now c.args.owners.now in
     let second = lent c.args.secondseparators.now c.args.secondnumbers.now c.args.secondwords.now c.args.secondowners.now in
     let pool = pooled c.args.poolnumbers.now c.args.poolwords.now c.args.poolowners.now in
-    record { leaves = step-turned c.args.parameters c.args.growth f second pool (step_admitted c.args.parameters c.args.growth f second (cleared pool)) c.admit.ensures c.both_fit-fits.ensures c.in-Refused.is }
+    record { leaves = step-turned c.args.parameters c.args.growth f second pool (step_admitted c.args.parameters c.args.growth f second (cleared pool)) c.admit.ensures c.both_fit-fits.ensures c.in-Err.is }
 
 -- past refusals 1 and 2
 

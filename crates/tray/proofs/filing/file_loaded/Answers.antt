@@ -9,8 +9,8 @@ use Rattle.hashing.specs.declared.Parameters.{Parameters}
 use Rattle.placement.specs.File.{File}
 use Rattle.placement.specs.Hash.{lent}
 use Rattle.calls.specs.declared.records.GrowthRecord.{GrowthRecord}
-use Rattle.calls.specs.declared.answers.Admission.{Admission}
-use Rattle.calls.specs.declared.answers.Admission.TheVariants.{Passed}
+use Rattle.std.specs.Prelude.{Result, Ok, Err}
+use Rattle.calls.specs.declared.answers.Refusal.{Refusal}
 use Rattle.calls.specs.Answers.{Pool, pooled}
 use Rattle.calls.specs.Shape.{admission_number}
 use Rattle.calls.specs.Calls.{file_lengths, pool_lengths, file_fits_lem, pool_fits_lem}
@@ -23,7 +23,7 @@ use Rattle.tray.proofs.Filed.{measured, refused-measured, open_measured, filing-
 use Rattle.tray.proofs.filing.file_loaded.Goals as goal
 
 -- what the lengths are tested for
-module _ (p : Parameters) (r : GrowthRecord) (f : File) (pool : Pool) (places count : ℕ) (filter : List ℕ) (all file tray : Bool) (a : Admission) (admits : admission_number a ≡ record_refusal p r all) (is : all ≡ (file && tray))
+module _ (p : Parameters) (r : GrowthRecord) (f : File) (pool : Pool) (places count : ℕ) (filter : List ℕ) (all file tray : Bool) (a : Result (Unit {0}) Refusal) (admits : admission_number a ≡ record_refusal p r all) (is : all ≡ (file && tray))
     (is-file : file ≡ (file_lengths p (length f.separators) (length f.numbers) (length f.words) (length f.owners) && pool_lengths p (length pool.numbers) (length pool.words) (length pool.owners)))
     (is-tray : tray ≡ tray_lengths places count (length filter)) where
   told : admission_number a ≡ tray_refusal p r (measured p r f pool places count filter)
@@ -31,19 +31,19 @@ module _ (p : Parameters) (r : GrowthRecord) (f : File) (pool : Pool) (places co
   told = admits ∙ record_is p r all ∙ ap (tray_refusal p r) (is ∙ rw (is-file, is-tray))
 
   -- past the refusals
-  none : a ≡ Passed → tray_refusal p r (measured p r f pool places count filter) ≡ 0
+  none : a ≡ Ok tt → tray_refusal p r (measured p r f pool places count filter) ≡ 0
   none passed = sym told ∙ ap admission_number passed
 
-pub returns-in-Refused : goal.returns-in-Refused
-returns-in-Refused c =
+pub returns-in-Err : goal.returns-in-Err
+returns-in-Err c =
     let a = c.args in
     let f = lent a.separators.now a.numbers.now a.words.now a.owners.now in
     let pool = pooled a.poolnumbers.now a.poolwords.now a.poolowners.now in
     record {
       stay_bound = rw c.not_filed.ensures (omega arith, omega arith);
       files_tray = rw c.not_filed.ensures (λ reports size copied.
-          refused-measured a.parameters a.growth f pool a.places a.count a.filter.now c.in-Refused.refusal
-          (sym (ap admission_number c.in-Refused.is) ∙ told a.parameters a.growth f pool a.places a.count a.filter.now _ _ _ _ c.admit.ensures c.all_fit-fits.ensures c.all_fit-lent.ensures c.tray_fits.ensures) reports size);
+          refused-measured a.parameters a.growth f pool a.places a.count a.filter.now c.in-Err.refusal
+          (sym (ap admission_number c.in-Err.is) ∙ told a.parameters a.growth f pool a.places a.count a.filter.now _ _ _ _ c.admit.ensures c.all_fit-fits.ensures c.all_fit-lent.ensures c.tray_fits.ensures) reports size);
     }
 
 pub returns-then-growth : goal.returns-then-growth

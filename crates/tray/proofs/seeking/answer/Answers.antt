@@ -5,9 +5,9 @@ use Rattle.tray_list.specs.Latest.{or_plain}
 use Rattle.tray.proofs.Sought.{answered-refused}
 use Rattle.tray.proofs.seeking.answer.Goals as goal
 
-pub returns-in-Refused : goal.returns-in-Refused
+pub returns-in-Err : goal.returns-in-Err
 unfolding sought
-returns-in-Refused c = rw c.in-Refused.is (answered-refused _ _ (rw c.in-Refused.is at c.requires))
+returns-in-Err c = rw c.in-Err.is (answered-refused _ _ (rw c.in-Err.is at c.requires))
 
 pub returns-then-found : goal.returns-then-found
 unfolding or_plain

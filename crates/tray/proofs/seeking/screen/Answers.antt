@@ -6,8 +6,8 @@ use lib.ListN.{length}
 use Rattle.hashing.specs.declared.Parameters.{Parameters}
 use Rattle.hashing.proofs.Bounds.{passed, failed}
 use Rattle.calls.specs.declared.records.GrowthRecord.{GrowthRecord}
-use Rattle.calls.specs.declared.answers.Admission.{Admission}
-use Rattle.calls.specs.declared.answers.Admission.TheVariants.{Passed}
+use Rattle.std.specs.Prelude.{Result, Ok, Err}
+use Rattle.calls.specs.declared.answers.Refusal.{Refusal}
 use Rattle.calls.specs.Shape.{admission_number}
 use Rattle.calls.specs.Calls.{file_lengths}
 use Rattle.calls.proofs.Numbers.{numbered}
@@ -18,20 +18,20 @@ use Rattle.tray.proofs.Refused.{record_is, screen_turned, screen_admitted, none-
 use Rattle.tray.proofs.seeking.screen.Goals as goal
 
 -- what the lengths are tested for
-told : (p : Parameters) (r : GrowthRecord) (all file tray f t : Bool) (a : Admission) → admission_number a ≡ record_refusal p r all → all ≡ (file && tray) → file ≡ f → tray ≡ t
+told : (p : Parameters) (r : GrowthRecord) (all file tray f t : Bool) (a : Result (Unit {0}) Refusal) → admission_number a ≡ record_refusal p r all → all ≡ (file && tray) → file ≡ f → tray ≡ t
     → admission_number a ≡ tray_refusal p r (f && t)
 told p r all file tray f t a e is is-f is-t = e ∙ record_is p r all ∙ ap (tray_refusal p r) (is ∙ rw (is-f, is-t))
 
-none : (p : Parameters) (r : GrowthRecord) (all file tray f t : Bool) (a : Admission) → admission_number a ≡ record_refusal p r all → all ≡ (file && tray) → file ≡ f → tray ≡ t → a ≡ Passed
+none : (p : Parameters) (r : GrowthRecord) (all file tray f t : Bool) (a : Result (Unit {0}) Refusal) → admission_number a ≡ record_refusal p r all → all ≡ (file && tray) → file ≡ f → tray ≡ t → a ≡ Ok tt
     → tray_refusal p r (f && t) ≡ 0
 none p r all file tray f t a e is is-f is-t passed = sym (told p r all file tray f t a e is is-f is-t) ∙ ap admission_number passed
 
-pub returns-in-Refused : goal.returns-in-Refused
-returns-in-Refused c =
+pub returns-in-Err : goal.returns-in-Err
+returns-in-Err c =
     let e = c.turn_away.ensures in (
       e.0
-          ∙ screen_turned _ _ _ _ c.in-Refused.refusal (sym (ap admission_number c.in-Refused.is) ∙ told _ _ _ _ _ _ _ _ c.admit.ensures c.all_fit-fits.ensures c.file_fits.ensures c.tray_fits.ensures),
-      (e.1 ∙ none-scanned _ _ _ (rw e.0 (numbered c.in-Refused.refusal)), rw e.1 (omega arith)),
+          ∙ screen_turned _ _ _ _ c.in-Err.refusal (sym (ap admission_number c.in-Err.is) ∙ told _ _ _ _ _ _ _ _ c.admit.ensures c.all_fit-fits.ensures c.file_fits.ensures c.tray_fits.ensures),
+      (e.1 ∙ none-scanned _ _ _ (rw e.0 (numbered c.in-Err.refusal)), rw e.1 (omega arith)),
     )
 
 pub returns-then-not-number_valid : goal.returns-then-not-number_valid

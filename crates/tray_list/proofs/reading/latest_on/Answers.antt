@@ -1,14 +1,12 @@
 -- `tray_list::reading::latest_on` meets its contract.
-use mathlib.Core.Path.{◌∙◌}
-use native.Mathlib.Numerals.{add-one}
-use native.Mathlib.Omega.{arith}
+use Rattle.std.proofs.Common.{arith, ◌∙◌, add-one}
 use Rattle.reports.specs.Reports.{no_report}
 use Rattle.tray_list.proofs.Answering.{latest-next, latest-none}
 use Rattle.tray_list.proofs.reading.latest_on.Goals as goal
 
-pub loop-i-init : goal.loop-i-init
-loop-i-init c = (omega arith, c.nothing-found.ensures ∙ latest-none c.args.number c.args.reports.now)
+pub loop-report-init : goal.loop-report-init
+loop-report-init c = c.nothing-found.ensures ∙ latest-none c.args.number c.args.reports.now
 
-pub loop-i-preserved : goal.loop-i-preserved
+pub loop-report-preserved : goal.loop-report-preserved
 unfolding no_report
-loop-i-preserved c = (omega arith, rw (add-one, c.later-found.ensures, c.loop-i.invariant.1) (latest-next _ _ _ _ (omega arith)))
+loop-report-preserved c = rw (add-one, c.later-found.ensures, c.loop-report.invariant) (latest-next _ _ _ _ (omega arith))
