@@ -47,6 +47,14 @@ unread d at s e j hd hs h =
     (get_or_at (take at d ++ take j s) (get_or d (at + j) 0) (drop (suc (at + j)) d) 0 (at + j)
     (length_paste_head d at s j (omega arith) hs))
 
+-- one turn of a copy of items of any type
+pub copied_next : {A : Type 0} (d e l : List A) (at start j : ℕ) (x : A) → at + j < length d → start + j < length l → e ≡ paste d at (drop start l) j → x ≡ get_or l (start + j) x
+    → set e (at + j) x ≡ paste d at (drop start l) (j + 1)
+copied_next {A} d e l at start j x hd hs is read =
+    ap (λ (m : List A). set m (at + j) x) is
+    ∙ ap (λ (a : A). set (paste d at (drop start l) j) (at + j) a) (read ∙ sym (get_or-drop start l j x))
+    ∙ rw (add-one j) (paste-suc d at (drop start l) j x hd (omega (arith, length-drop start l)))
+
 -- an item moved down, which none of those written before it was
 pub moved_next : {A : Type 0} (d e : List A) (to from j : ℕ) (x : A) → to ≤ from → from + j < length d → e ≡ paste d to (drop from d) j → x ≡ get_or e (from + j) x
     → set e (to + j) x ≡ paste d to (drop from d) (j + 1)

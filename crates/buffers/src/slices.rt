@@ -7,15 +7,18 @@ use crate::zero::Zeroed;
 // Items that a clearing reads before it writes them.
 const BLOCK: usize = 128;
 
+// No `copy_from_slice`: on lent slices it is a memmove, and the library asks for memcpy and memset alone (docs/USING.md).
 pub fn copy<T: Copy>(to: &mut [T], at: usize, from: &[T], start: usize, items: usize)
     requires in_bounds { at + items ≤ length to.old }
     requires in_bounds_2 { start + items ≤ length from.now }
     ensures { to.new ≡ paste to.old at (drop start from.now) items }
 {
-    to[at..at + items].copy_from_slice(&from[start..start + items]);
+    for i in 0..items {
+        to[at + i] = from[start + i];
+    }
 }
 
-// The `count` items from `from` on, moved down to `to`. No `copy_within`: the library asks for memcpy and memset alone (docs/USING.md).
+// The `count` items from `from` on, moved down to `to`: no `copy_within`, for the same reason.
 pub fn move_down<T: Copy>(items: &mut [T], to: usize, from: usize, count: usize)
     requires down { to ≤ from }
     requires in_bounds { from + count ≤ length items.old }

@@ -1,52 +1,39 @@
--- Items moved by one place, and what that leaves of a list around the items moved.
+-- The loops that move items by one place, and what they leave of a list around the items moved.
 use mathlib.Core.Path.{◌≡◌, refl, sym, ap, ◌∙◌}
 use mathlib.Core.List.{List, [], ◌∷◌, ◌++◌, append_assoc}
 use Prim.Native.Nat.{ℕ, suc, ◌+◌, ◌≤◌, ◌<◌}
 use native.Mathlib.Numerals.{add-one}
 use native.Mathlib.Omega.{arith}
-use lib.ListN.{length, take, drop, get_or, set, length-append, length-drop}
-use lib.Seq.{paste, paste-suc, drop-drop, drop-paste, take_all, take_at, drop_at, get_or-drop, get_or_at, append_snoc, length-take-le}
+use lib.ListN.{length, take, drop, get_or, set, length-append, length-drop, get_or-append}
+use lib.Seq.{paste, drop-drop, drop-paste, take_all, take_at, drop_at, get_or-drop, get_or-take, get_or_at, append_snoc, length-take-le}
+use Rattle.buffers.proofs.Copies.{Copied, turn}
+use Rattle.buffers.proofs.Copies.{done}
 use Rattle.page_edit.specs.Shift.{opened_at, closed_up_lem}
 
--- one turn of a loop that moves up; what it carries on is what the next one writes
-pub risen_next : {A : Type 0} (d e : List A) (from j : ℕ) (x carried next : A) → from + j < length d → e ≡ paste d from (x ∷ drop from d) j
-    → carried ≡ get_or (x ∷ drop from d) j carried → next ≡ get_or e (from + j) next
-    → (set e (from + j) carried ≡ paste d from (x ∷ drop from d) (j + 1)) × (next ≡ get_or (x ∷ drop from d) (j + 1) next)
-risen_next {A} d e from j x carried next h is w read = (
-  ap (λ (l : List A). set l (from + j) carried) is
-      ∙ ap (λ (a : A). set (paste d from s j) (from + j) a) w
-      ∙ rw (add-one j) (paste-suc d from s j carried h (omega (arith, length-drop from d))),
-  rw (add-one j) (read ∙ ap (λ (l : List A). get_or l (from + j) next) is ∙ unwritten ∙ sym (get_or-drop from d j next)),
+-- an item that is not yet written is as it was
+pub unwritten : (d : List ℕ) (at : ℕ) (s e : List ℕ) (j i : ℕ) → at + j ≤ length d → j ≤ length s → Copied d at s e j → get_or e (at + j + i) 0 ≡ get_or d (at + j + i) 0
+unwritten d at s e j i hd hs h =
+    ap (λ (l : List ℕ). get_or l (at + j + i) 0) h.is
+    ∙ sym (get_or-drop (at + j) (paste d at s j) i 0)
+    ∙ ap (λ (l : List ℕ). get_or l i 0) (drop-paste d at s j (omega arith) hs)
+    ∙ get_or-drop (at + j) d i 0
+
+-- moving up
+
+-- one turn; what it carries on is what the next one writes
+pub risen_next : {d e : List ℕ} {from x j carried : ℕ} → Copied d from (x ∷ drop from d) e j → carried ≡ get_or (x ∷ drop from d) j 0 → from + j < length d
+    → Copied d from (x ∷ drop from d) (set e (from + j) carried) (j + 1) × (get_or e (from + j) 0 ≡ get_or (x ∷ drop from d) (j + 1) 0)
+risen_next {d} {e} {from} {x} {j} {carried} c w h = (
+  turn d from (x ∷ drop from d) e j carried h (omega (arith, length-drop from d)) w c,
+  rw (add-one j)
+      (ap (λ (i : ℕ). get_or e i 0) same
+      ∙ unwritten d from (x ∷ drop from d) e j 0 (omega arith) (omega (arith, length-drop from d)) c
+      ∙ ap (λ (i : ℕ). get_or d i 0) (sym same)
+      ∙ sym (get_or-drop from d j 0)),
 )
   where
-    s : List A
-    s = x ∷ drop from d
-
     same : from + j ≡ from + j + 0
     same = omega arith
-
-    unwritten : get_or (paste d from s j) (from + j) next ≡ get_or d (from + j) next
-    unwritten =
-        ap (λ (i : ℕ). get_or (paste d from s j) i next) same
-        ∙ sym (get_or-drop (from + j) (paste d from s j) 0 next)
-        ∙ ap (λ (l : List A). get_or l 0 next) (drop-paste d from s j (omega arith) (omega (arith, length-drop from d)))
-        ∙ get_or-drop (from + j) d 0 next
-        ∙ ap (λ (i : ℕ). get_or d i next) (sym same)
-
--- the items after the one at `from` moved down by one, and x put where the last was
-pub lowered : {A : Type 0} (d : List A) (from behind : ℕ) (x : A) → from + behind < length d
-    → set (paste d from (drop (from + 1) d) behind) (from + behind) x ≡ paste d from (take behind (drop (from + 1) d) ++ (x ∷ [])) (behind + 1)
-lowered {A} d from behind x fits =
-    rw (add-one behind)
-    (ap (λ (l : List A). set (take from d ++ l ++ drop (from + behind) d) (from + behind) x) (sym (take_at S (x ∷ []) behind front))
-    ∙ ap (λ (a : A). set (paste d from (S ++ (x ∷ [])) behind) (from + behind) a) (sym (get_or_at S x [] x behind front))
-    ∙ paste-suc d from (S ++ (x ∷ [])) behind x fits (omega (arith, front, length-append S (x ∷ []))))
-  where
-    S : List A
-    S = take behind (drop (from + 1) d)
-
-    front : length S ≡ behind
-    front = length-take-le behind (drop (from + 1) d) (omega (arith, length-drop (from + 1) d))
 
 -- the items D between F and y moved over y
 pub opened-is : (F D R : List ℕ) (x y from count : ℕ) → length F ≡ from → count ≡ suc (length D)
@@ -59,6 +46,44 @@ opened-is F D R x y from count lf lc =
   where
     past : drop (suc (length D)) (D ++ (y ∷ R)) ≡ R
     past = ap (drop (suc (length D))) (sym (append_snoc D y R)) ∙ drop_at (D ++ (y ∷ [])) R (suc (length D)) (length-append D (y ∷ []) ∙ omega arith)
+
+-- moving down
+
+-- what the items from `from` on are to be
+abbrev pub fallen : ℕ → ℕ → List ℕ → List ℕ
+fallen from behind d = take behind (drop (from + 1) d) ++ (0 ∷ [])
+
+module _ (d : List ℕ) (from behind : ℕ) (fits : from + behind < length d) where
+  front : length (take behind (drop (from + 1) d)) ≡ behind
+  front = length-take-le behind (drop (from + 1) d) (omega (arith, length-drop (from + 1) d))
+
+  length-fallen : length (fallen from behind d) ≡ suc behind
+  length-fallen = length-append (take behind (drop (from + 1) d)) (0 ∷ []) ∙ omega (arith, front)
+
+  -- the item after the one to be written
+  fallen-item : (e : List ℕ) (j : ℕ) → j < behind → Copied d from (fallen from behind d) e j → get_or e (from + j + 1) 0 ≡ get_or (fallen from behind d) j 0
+  fallen-item e j h c =
+      unwritten d from (fallen from behind d) e j 1 (omega arith) (omega (arith, length-fallen)) c
+      ∙ sym
+      (get_or-append (take behind (drop (from + 1) d)) (0 ∷ []) 0 j (omega (arith, front))
+      ∙ get_or-take behind (drop (from + 1) d) j 0 h
+      ∙ get_or-drop (from + 1) d j 0
+      ∙ ap (λ (i : ℕ). get_or d i 0) same)
+    where
+      same : from + 1 + j ≡ from + j + 1
+      same = omega arith
+
+  pub fallen-next : {e : List ℕ} {j : ℕ} → Copied d from (fallen from behind d) e j → j < behind
+      → Copied d from (fallen from behind d) (set e (from + j) (get_or e (from + j + 1) 0)) (j + 1)
+  fallen-next {e} {j} c h = turn d from (fallen from behind d) e j (get_or e (from + j + 1) 0) (omega arith) (omega (arith, length-fallen)) (fallen-item e j h c) c
+
+  fallen-last : get_or (fallen from behind d) behind 0 ≡ 0
+  fallen-last = get_or_at (take behind (drop (from + 1) d)) 0 [] 0 behind front
+
+  -- the loop is done, and 0 is written last
+  pub fallen-all : {e : List ℕ} {j : ℕ} → Copied d from (fallen from behind d) e j → j ≤ behind → behind ≤ j → Copied d from (fallen from behind d) (set e (from + behind) 0) (behind + 1)
+  fallen-all {e} {j} c a b =
+      turn d from (fallen from behind d) e behind 0 fits (omega (arith, length-fallen)) (sym fallen-last) (record { is = done behind a b c; kept = c.kept })
 
 -- the item y between F and D taken out
 pub closed_is : (F D R : List ℕ) (y from behind : ℕ) → length F ≡ from → behind ≡ length D

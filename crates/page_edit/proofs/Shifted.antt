@@ -132,6 +132,3 @@ module _ {places page place : ℕ} {ns ws os : List ℕ} (h : Occupied places pa
   pub take-list : (g : Star → ℕ) (l : List ℕ) → Of places page ns ws os h.ordered g l
       → closed_up_lem (page * places + place) (places - place - 1) l ≡ written (page * places) (padded places (map g (without (number_at places page place ns) (stars_on places page ns ws os)))) l
   take-list = take-items places page ns ws os h.ordered place h.held
-
--- the place is one of the page's
-pub ruleset within = (vacant-place, occupied-place)

@@ -6,6 +6,6 @@ mod items;
 mod room;
 mod star;
 
-pub use items::{put_item, put_number, take_item, take_number};
+pub use items::{put_number, take_number};
 pub use room::takes_alone;
 pub use star::{put_star, take_star};

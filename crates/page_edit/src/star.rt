@@ -2,10 +2,9 @@
 ghost use Rattle.placement.specs.Rule.{insert, without, star_with};
 ghost use Rattle.page_edit.specs.Shift.{Vacant, Occupied, StandsOn, stars_before, number_at};
 
-use crate::items::{put_item, take_item};
+use crate::items::{put_number, put_owner, put_word, take_number, take_owner, take_word};
 
 // The star put on a page whose last place is empty, at the place where its search ended.
-#[tactic(auto, using(crate::proofs::Shifted::within))]
 pub fn put_star(
     numbers: &mut [u32],
     words: &mut [u64],
@@ -22,13 +21,12 @@ pub fn put_star(
 {
     let from = page * places + place;
     let count = places - place;
-    put_item(numbers, from, count, number);
-    put_item(words, from, count, word);
-    put_item(owners, from, count, owner);
+    put_number(numbers, from, count, number);
+    put_word(words, from, count, word);
+    put_owner(owners, from, count, owner);
 }
 
 // The star at this place taken from the page.
-#[tactic(auto, using(crate::proofs::Shifted::within))]
 pub fn take_star(
     numbers: &mut [u32],
     words: &mut [u64],
@@ -42,7 +40,7 @@ pub fn take_star(
 {
     let from = page * places + place;
     let behind = places - place - 1;
-    take_item(numbers, from, behind, 0);
-    take_item(words, from, behind, 0);
-    take_item(owners, from, behind, 0);
+    take_number(numbers, from, behind);
+    take_word(words, from, behind);
+    take_owner(owners, from, behind);
 }
