@@ -69,7 +69,7 @@ module _ (k : ℕ) (ns ws : List ℕ) (p : k ≤ length ns) (q : k ≤ length ws
   unfolding standing_of
   at_row i h s = s ∙ ap (standing_of number word) (opened i h)
 
-  sought-next : (i : ℕ) → i < k → (get_or ns i 0 ≡ number → ⊥) → Sought k ns ws number word i → Sought k ns ws number word (i + 1)
+  pub sought-next : (i : ℕ) → i < k → (get_or ns i 0 ≡ number → ⊥) → Sought k ns ws number word i → Sought k ns ws number word (i + 1)
   sought-next i h n s = at_row i h s ∙ rw (ne_eqb (get_or ns i 0) number n, add-one i)
 
   reached : (i : ℕ) → i ≤ k → ((j : ℕ) → j < i → get_or ns j 0 ≡ number → ⊥) → Sought k ns ws number word i

@@ -144,7 +144,7 @@ module _ (l block : List ℕ) (at : ℕ) (fits : at + 8 ≤ length l) (eight : l
 
   -- a loop over the blocks: what holds of those stored, and that the others stay
   module _ (start : at % 8 ≡ 0) where
-    blocks_more :
+    pub blocks_more :
         (holds : ℕ → List ℕ → Type 0) → Blocks at (λ b. holds b (block_at l b)) → holds at block →
         Blocks (at + 8) (λ b. holds b (block_at (paste l at block 8) b))
     blocks_more holds old new b m h = go (dec_lt b at)
@@ -155,7 +155,7 @@ module _ (l block : List ℕ) (at : ℕ) (fits : at + 8 ≤ length l) (eight : l
             let e : b ≡ at = omega arith in
             rw (e, part-stored) new
 
-    blocks-rest : (l₀ : List ℕ) → Kept at l l₀ → Kept (at + 8) (paste l at block 8) l₀
+    pub blocks-rest : (l₀ : List ℕ) → Kept at l l₀ → Kept (at + 8) (paste l at block 8) l₀
     blocks-rest l₀ old b m h = part-above b h ∙ old b m (omega arith)
 
 module _ (l l' block : List ℕ) (at : ℕ) (start : at % 8 ≡ 0) (fits : at + 8 ≤ length l) (eight : length block ≡ 8) (stored : l' ≡ paste l at block 8) where
