@@ -6,8 +6,8 @@ use native.Mathlib.Nat.{not-suc-le-zero}
 use native.Mathlib.Decide.{dec_lt}
 use native.Mathlib.Numerals.{add-one}
 use native.Mathlib.Omega.{arith}
-use lib.ListN.{length, get_or, take, drop, set, length-append, get_or-append, get_or-map, length-map}
-use lib.Seq.{drop-cons, drop-length, set_at, append_snoc, get_or_at, get_or-append-add, get_or-take, get_or-drop, ext_get_or, length-take-le, paste, take-paste, drop-paste, length-paste}
+use lib.ListN.{length, replicate, get_or, take, drop, set, length-append, length-drop, get_or-append, get_or-map, length-map}
+use lib.Seq.{drop-cons, drop-length, take-length, set_at, append_snoc, get_or_at, get_or-append-add, get_or-take, get_or-drop, ext_get_or, length-take-le, paste, take-paste, drop-paste, length-paste}
 use borrow.Rule.Slice.PartMut.{put_mid}
 use Rattle.std.proofs.lemmas.Slice.{put_mid-paste}
 use Rattle.homes.specs.Lanes.{block_at, Blocks}
@@ -102,6 +102,16 @@ unfolding block_at
 lent-block l at {block} e size =
     sym (lanes-list 8 block size)
     ∙ lanes-same 8 (λ i. get_or block i 0) (λ i. get_or l (at + i) 0) (λ i h. rw (e, get_or-take (at + 8 - at) (drop at l) i 0 (omega arith), get_or-drop at l i 0))
+
+-- a block copied from there
+pub copied-block : (l : List ℕ) (at : ℕ) {block : List ℕ} → block ≡ paste (replicate 8 0) 0 (drop at l) 8 → at + 8 ≤ length l → block ≡ block_at l at
+copied-block l at {block} e fits =
+    let room : 8 ≤ length (drop at l) = rw (length-drop at l) (omega arith) in
+    let long : length block ≡ 8 = ap length e ∙ length-paste (replicate 8 0) 0 (drop at l) 8 (omega arith) room in
+    let whole : take 8 block ≡ block = ap (λ (n : ℕ). take n block) (sym long) ∙ take-length block in
+    let same : block ≡ take 8 (drop at l) = sym whole ∙ ap (take 8) e ∙ take-paste (replicate 8 0) 0 (drop at l) 8 (omega arith) room in
+    let eight : 8 ≡ at + 8 - at = omega arith in
+    lent-block l at (same ∙ ap (λ (n : ℕ). take n (drop at l)) eight) long
 
 -- a block stored
 module _ (l block : List ℕ) (at : ℕ) (fits : at + 8 ≤ length l) (eight : length block ≡ 8) where

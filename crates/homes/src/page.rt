@@ -34,8 +34,8 @@ fn prepare(
         let mut starting = [0u16; 8];
         keys_of(numbers, at, &mut block);
         starts(factor, span, inverse, &block, &mut starting);
-        keys[at..at + 8].copy_from_slice(&block);
-        pages[at..at + 8].copy_from_slice(&starting);
+        buffers::copy(keys, at, &block, 0, 8);
+        buffers::copy(pages, at, &starting, 0, 8);
     }
 }
 

@@ -41,10 +41,9 @@ fn turn_at(
     let mut block_keys = [0u64; 8];
     let mut block_groups = [0u16; 8];
     let mut block_pages = [0u16; 8];
-    let end = at + 8;
-    block_keys.copy_from_slice(&keys[at..end]);
-    block_groups.copy_from_slice(&groups[at..end]);
-    block_pages.copy_from_slice(&pages[at..end]);
+    buffers::copy(&mut block_keys, 0, keys, at, 8);
+    buffers::copy(&mut block_groups, 0, groups, at, 8);
+    buffers::copy(&mut block_pages, 0, pages, at, 8);
     turn(
         geometry,
         sweep,
@@ -55,8 +54,8 @@ fn turn_at(
         &mut block_groups,
         &mut block_pages,
     );
-    groups[at..end].copy_from_slice(&block_groups);
-    pages[at..end].copy_from_slice(&block_pages);
+    buffers::copy(groups, at, &block_groups, 0, 8);
+    buffers::copy(pages, at, &block_pages, 0, 8);
 }
 
 // Step i + 1 of all blocks.
